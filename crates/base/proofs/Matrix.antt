@@ -1,0 +1,50 @@
+-- Index arithmetic of flat matrices: a row and an entry lie inside, two rows do not overlap; and what keeps elements below p.
+use Prim.Native.Nat.{ℕ, zero, suc, _+_, _*_, _≤_, _<_}
+use mathlib.Core.Bool.{Bool, true}
+use mathlib.Core.List.{List}
+use mathlib.Core.Logic.{_≢_, _⊎_, inl, inr}
+use mathlib.Core.Path.{_≡_, refl, ap}
+use native.Mathlib.Nat.{mul-le-mul-right, suc-mul}
+use native.Mathlib.Decide.{decLt}
+use native.Mathlib.Omega.{arith}
+use lib.Dec.{ltb}
+use lib.ListN.{length, getD, set, List·getD-eq-default}
+use lib.Seq.{getD-set-same, getD-set-other, set-out}
+use borrow.Author.Tests.{ltb-true, lt-ltb}
+use Rattle.base.specs.Matrix.{Below, allBelow}
+use Rattle.base.proofs.Choice.{either}
+use Rattle.base.proofs.Search.{every-at, every-all}
+
+pub row-fits : (rows d r : ℕ) → r < rows → r * d + d ≤ rows * d
+row-fits rows d r h = omega (arith, mul-le-mul-right d h, suc-mul r d)
+
+pub entry-fits : (rows d r c : ℕ) → r < rows → c < d → r * d + c < rows * d
+entry-fits rows d r c h l = omega (arith, row-fits rows d r h)
+
+pub rows-apart : (d r s : ℕ) → r ≢ s → (r * d + d ≤ s * d) ⊎ (s * d + d ≤ r * d)
+rows-apart d r s h = go (decLt r s)
+  where
+    go : Dec (r < s) → (r * d + d ≤ s * d) ⊎ (s * d + d ≤ r * d)
+    go (yes l) = inl (row-fits s d r l)
+    go (no n) = inr (row-fits r d s (omega arith))
+
+pub below-set : (p : ℕ) (a : List ℕ) (i v : ℕ) → v < p → Below p a → Below p (set a i v)
+below-set p a i v hv all k =
+    either k i (getD (set a i v) k 0 < p) (λ e. go e (decLt i (length a))) (λ ne. rw (getD-set-other a i k v 0 ne) (all k))
+  where
+    go : k ≡ i → Dec (i < length a) → getD (set a i v) k 0 < p
+    go e (yes l) = rw (e, getD-set-same a i v 0 l) hv
+    go e (no n) = rw (set-out a i v (omega arith)) (all k)
+
+-- the test and the fact; past the end stands 0, so p is above 0
+pub below-by : (p : ℕ) (l : List ℕ) → 0 < p → allBelow p l ≡ true → Below p l
+unfolding allBelow
+below-by p l pos t k = go (decLt k (length l))
+  where
+    go : Dec (k < length l) → getD l k 0 < p
+    go (yes h) = ltb-true (getD l k 0) p (every-at (length l) (λ i. ltb (getD l i 0) p) t k h)
+    go (no n) = rw (List·getD-eq-default l 0 {n = k} (omega arith)) pos
+
+pub below-is : (p : ℕ) (l : List ℕ) → ((k : ℕ) → k < length l → getD l k 0 < p) → allBelow p l ≡ true
+unfolding allBelow
+below-is p l h = every-all (length l) (λ i. ltb (getD l i 0) p) (λ k m. lt-ltb (getD l k 0) p (h k m))

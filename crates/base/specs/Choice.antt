@@ -1,0 +1,7 @@
+-- A choice by a test.
+-- pick: the first where the test holds, else the second
+use mathlib.Core.Bool.{Bool, true, false}
+
+abbrev pub pick {ℓ} : {A : Type ℓ} → Bool → A → A → A
+pick true a b = a
+pick false a b = b

@@ -1,0 +1,18 @@
+-- Lists that a function gives.
+-- tab: f 0, f 1, .., f (n - 1) as a list
+-- filled: the list l with its first k entries replaced by f 0, f 1, .., f (k - 1); the rest is as it was
+use mathlib.Core.List.{List, [], _∷_}
+use Prim.Native.Nat.{ℕ, zero, suc}
+
+module _ {A : Type 0} where
+  unfoldable pub tabFrom : ℕ → ℕ → (ℕ → A) → List A
+  tabFrom i zero f = []
+  tabFrom i (suc n) f = f i ∷ tabFrom (suc i) n f
+
+  unfoldable pub tab : ℕ → (ℕ → A) → List A
+  tab n f = tabFrom 0 n f
+
+  unfoldable pub filled : (ℕ → A) → ℕ → List A → List A
+  filled f zero l = l
+  filled f (suc k) [] = []
+  filled f (suc k) (x ∷ xs) = f 0 ∷ filled (λ i. f (suc i)) k xs

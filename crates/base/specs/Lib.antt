@@ -1,0 +1,6 @@
+pub mod Choice
+pub mod Rules
+pub mod Sum
+pub mod Search
+pub mod Fill
+pub mod Matrix

@@ -1,0 +1,40 @@
+// What the layers above share in code: a refusal table's rule, an entry widened, a test of a whole slice.
+ghost use mathlib.Core.Path.{_≡_};
+ghost use Prim.Native.Nat.{_<_, _≤_};
+ghost use lib.ListN.{length, getD};
+ghost use Rattle.base.specs.Rules.{orWhen};
+ghost use Rattle.base.specs.Matrix.{allBelow};
+
+// One rule of a refusal table: a number that stands already stays, else `number` where its test holds.
+pub fn or_when(standing: u16, number: u16, holds: bool) -> u16
+    ensures { λ r. ⌜ r ≡ orWhen standing number holds ⌝ }
+{
+    if standing == 0 {
+        if holds { number } else { 0 }
+    } else {
+        standing
+    }
+}
+
+// An entry, widened.
+pub fn at(s: &[u16], i: usize) -> u64
+    requires { ⌜ i < length (now s) ⌝ }
+    ensures { λ r. ⌜ (r ≡ getD (now (s .entry)) i 0) × (r ≤ 65535) ⌝ }
+{
+    s[i] as u64
+}
+
+// Whether every entry is below p. It reads the whole slice, so that it takes the same time for every content.
+pub fn all_below(s: &[u16], p: u16) -> bool
+    ensures { λ r. ⌜ r ≡ allBelow p (now (s .entry)) ⌝ }
+{
+    let mut over: u16 = 0;
+    let mut i = 0;
+    while i < s.len() {
+        if p <= s[i] {
+            over = 1;
+        }
+        i += 1;
+    }
+    over == 0
+}
