@@ -1,2 +1,4 @@
 pub mod Congruence
 pub mod Prime
+pub mod Fields
+mod Table

@@ -1,1 +1,2 @@
 pub mod Prime
+pub mod Fields
