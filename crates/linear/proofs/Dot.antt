@@ -1,12 +1,17 @@
 -- The laws of products: y (G x) = (y G) x, a combination of vectors, and what a row for a position reads.
 use mathlib.Core.Path.{_≡_, refl, sym, ap, ap₂, _∙_, _≡⟨_⟩_, _∎}
 use Prim.Native.Nat.{ℕ, _+_, _*_, _%_, _<_}
+use native.Mathlib.Numerals.{add-one}
 use native.Mathlib.Omega.{arith}
 use native.Mathlib.Nat.{zero-mod}
 use Rattle.base.specs.Sum.{sum, unit}
 use Rattle.base.proofs.Sum.{sum-add, sum-scale, sum-ext, sum-none, sum-swap, sum-unit}
 use Rattle.field.proofs.Congruence.{cong-mul, sum-mod}
 use Rattle.linear.specs.Dot.{dot, RowFor}
+
+pub dot-step : (d : ℕ) (u v : ℕ → ℕ) → dot (d + 1) u v ≡ dot d u v + u d * v d
+unfolding dot sum
+dot-step d u v = rw add-one refl
 
 pub dot-comm : (d : ℕ) (u v : ℕ → ℕ) → dot d u v ≡ dot d v u
 unfolding dot
