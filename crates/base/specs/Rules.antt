@@ -13,7 +13,6 @@ use mathlib.Core.Path.{_≡_}
 use lib.Dec.{leb, T}
 
 infix 20 _when_
-
 pub data Rule : Type 0 where
   _when_ : ℕ → Bool → Rule
 

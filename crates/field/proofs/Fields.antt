@@ -31,8 +31,13 @@ is-field p f = five-elim p (λ p. isField p ≡ true) refl refl refl refl refl f
 pub not-field : (p : ℕ) → (Five p → ⊥) → isField p ≡ false
 unfolding isField
 not-field p n =
-    simp (ne-eqb p 2 (λ e. n (inl e)), ne-eqb p 7 (λ e. n (inr (inl e))), ne-eqb p 251 (λ e. n (inr (inr (inl e)))),
-    ne-eqb p 257 (λ e. n (inr (inr (inr (inl e))))), ne-eqb p 65521 (λ e. n (inr (inr (inr (inr e))))))
+    simp (
+      ne-eqb p 2 (λ e. n (inl e)),
+      ne-eqb p 7 (λ e. n (inr (inl e))),
+      ne-eqb p 251 (λ e. n (inr (inr (inl e)))),
+      ne-eqb p 257 (λ e. n (inr (inr (inr (inl e))))),
+      ne-eqb p 65521 (λ e. n (inr (inr (inr (inr e))))),
+    )
 
 pub field-five : (p : ℕ) → isField p ≡ true → Five p
 unfolding isField

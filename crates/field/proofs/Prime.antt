@@ -47,9 +47,11 @@ prime-by p n l m t = record { big = l; indivisible = go }
         two zero d = omega arith
         two (suc zero) d = omega arith
         two (suc (suc k)) d = omega arith
+
         small : (b : Bool) → leb q (suc n) ≡ b → ⊥
         small true d = trial-at p n t q (two q e) (leb-true q (suc n) d) (rw e (mul-mod-right q a))
         small false d = let h = leb-false q (suc n) d in omega (arith, mul-le-mul {n₁ = n + 2} {m₁ = n + 2} {n₂ = q} {m₂ = a} (omega arith) (omega arith))
+
     go : (a : ℕ) → 1 < a → a < p → p % a ≢ 0
     go a l₁ l₂ e = pick-it (leb a (suc n)) refl
       where

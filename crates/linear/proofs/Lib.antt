@@ -1,1 +1,3 @@
 pub mod Dot
+pub mod Polynomial
+pub mod Interpolation

@@ -55,11 +55,12 @@ loop-again : tie.Need-loop-again Inv-loop μ-loop
 loop-again c =
     let l = c .before .before .before in
     let x = l .before .args in
-    let t : ℕ → Bool = λ k. ltb (getD (x .s .now) k 0) (x .p) in
-    (search needs,
-    ⊎-elim (λ w. failed t (l .loop .i) (c .if1 .over) (le-ltb _ _ (w .0 .taken)) (w .1))
-      (λ w. rw (w .1) (passed t (l .loop .i) (l .loop .over) (lt-ltb _ _ (w .0 .left)) (l .loop .inv .1)))
-      (c .if1 .came))
+    let t : ℕ → Bool = λ k. ltb (getD (x .s .now) k 0) (x .p) in (
+      search needs,
+      ⊎-elim (λ w. failed t (l .loop .i) (c .if1 .over) (le-ltb _ _ (w .0 .taken)) (w .1))
+          (λ w. rw (w .1) (passed t (l .loop .i) (l .loop .over) (lt-ltb _ _ (w .0 .left)) (l .loop .inv .1)))
+          (c .if1 .came),
+    )
 
 returns : tie.Need-returns Inv-loop μ-loop
 unfolding allBelow

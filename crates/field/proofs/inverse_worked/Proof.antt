@@ -36,11 +36,12 @@ loop-again : tie.Need-loop-again Inv-loop μ-loop
 loop-again c =
     let x = c .before .before .before .args in
     let l = c .before .before .loop in
-    let low : x .p % l .cur < l .cur = mod-lt (x .p) (omega arith) in
-    (omega (arith, c .before .before .before .pre .1 .indivisible (l .cur) (omega arith) (omega arith)),
-    omega arith,
-    rw (c .product .ensures) (mod-lt (l .acc * (x .p - x .p / l .cur)) (omega arith)),
-    rw (c .product .ensures) (inverse-turn (x .p) (x .a) (l .acc) (l .cur) (omega arith) (omega arith) (l .inv .3)))
+    let low : x .p % l .cur < l .cur = mod-lt (x .p) (omega arith) in (
+      omega (arith, c .before .before .before .pre .1 .indivisible (l .cur) (omega arith) (omega arith)),
+      omega arith,
+      rw (c .product .ensures) (mod-lt (l .acc * (x .p - x .p / l .cur)) (omega arith)),
+      rw (c .product .ensures) (inverse-turn (x .p) (x .a) (l .acc) (l .cur) (omega arith) (omega arith) (l .inv .3)),
+    )
 
 returns : tie.Need-returns Inv-loop μ-loop
 returns c =

@@ -54,10 +54,11 @@ loop-less c = search needs
 
 loop-again : tie.Need-loop-again Inv-loop μ-loop
 loop-again c =
-    let l = c .before .before .before .loop in
-    (omega arith,
-    omega (arith, term (c .before .at .result) (c .at2 .result) (c .before .at .ensures .1) (c .at2 .ensures .1)),
-    rw (dot-step, mul-one) (cc))
+    let l = c .before .before .before .loop in (
+      omega arith,
+      omega (arith, term (c .before .at .result) (c .at2 .result) (c .before .at .ensures .1) (c .at2 .ensures .1)),
+      rw (dot-step, mul-one) (cc),
+    )
 
 residue-requires : tie.Need-residue-requires Inv-loop μ-loop
 residue-requires c κs = search needs

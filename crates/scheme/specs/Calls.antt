@@ -1,0 +1,185 @@
+-- The open calls: for each its refusals in one ordered table with document 01's numbers ("What a call gives when it declines"), then its answer,
+-- then what each lent buffer holds.
+-- limits: refusals 1 and 2, which every call with a setup has
+-- size, elements: one rule of refusal 3, one of refusal 4
+-- xRules, xCall, xLeft: the table, the answer and the buffer of call x
+use mathlib.Core.Path.{_≡_}
+use mathlib.Core.Bool.{Bool, true, not, _&&_, _||_}
+use mathlib.Core.List.{List, [], _∷_, _++_}
+use Prim.Native.Nat.{ℕ, zero, suc, _+_, _-_, _*_, _%_, _^_}
+use lib.Dec.{eqb, leb, ltb}
+use lib.ListN.{length, replicate}
+use Rattle.base.specs.Choice.{pick}
+use Rattle.base.specs.Rules.{Rule, _when_, refusal, Answer, refused, given}
+use Rattle.base.specs.Search.{Vec}
+use Rattle.base.specs.Fill.{tab}
+use Rattle.base.specs.Matrix.{flat, allBelow}
+use Rattle.field.specs.Fields.{isField}
+use Rattle.linear.specs.Dot.{at}
+use Rattle.scheme.specs.Setup.{Setup, dim}
+use Rattle.scheme.specs.Points.{pointsMatrix}
+use Rattle.scheme.specs.Answers.{yes, no, answerBy, leftBy, isARow, isAVector, isNeither}
+use Rattle.scheme.specs.Dealing.{dealt, partG, partH, pairValue, judge, outcome, isKept, shares, rehearse}
+use Rattle.scheme.specs.Sets.{holds, members, isRow, isSweep, kind, determines, isPrivate}
+use Rattle.scheme.specs.Opening.{opening, combine}
+
+-- "1: p is none of the five"; "2: ℓ, e or n beyond its limits"
+abbrev pub outside : ℕ → ℕ → ℕ → Bool
+outside low high x = ltb x low || ltb high x
+
+abbrev pub limits : Setup → List Rule
+limits S = (1 when not (isField (S .p))) ∷ (2 when outside 1 8 (S .l)) ∷ (2 when outside 1 8 (S .e)) ∷ (2 when outside 1 32 (S .n)) ∷ []
+
+-- "3: a lent length isn't the one needed"; "4: a field element is p or more"
+abbrev pub size : List ℕ → ℕ → Rule
+size xs needed = 3 when not (eqb (length xs) needed)
+
+abbrev pub elements : ℕ → List ℕ → Rule
+elements p xs = 4 when not (allBelow p xs)
+
+-- POINTS: the points matrix into a lent matrix. "15: points matrix with d + n above p"
+abbrev pub pointsRules : Setup → List Rule
+pointsRules S = limits S ++ size (S .M) (S .n * dim S) ∷ (15 when ltb (S .p) (dim S + S .n)) ∷ []
+
+abbrev pub pointsCall : Setup → Answer
+pointsCall S = answerBy (refusal (pointsRules S)) (given [])
+
+abbrev pub pointsLeft : Setup → List ℕ
+pointsLeft S = leftBy (refusal (pointsRules S)) (pointsMatrix (S .p) (dim S) (S .n)) (S .M)
+
+-- DEAL to one holder, into the lent g and h; the secrets by vector, position k of vector b at b * ℓ + k
+abbrev pub dealInputs : Setup → List ℕ → List ℕ → List Rule
+dealInputs S secrets random =
+    limits S ++ size (S .M) (S .n * dim S) ∷ size secrets (S .l * S .l) ∷ size random (dim S * dim S - S .l * S .l) ∷ []
+
+abbrev pub dealElements : Setup → List ℕ → List ℕ → List Rule
+dealElements S secrets random = elements (S .p) (S .M) ∷ elements (S .p) secrets ∷ elements (S .p) random ∷ []
+
+abbrev pub dealRules : Setup → List ℕ → List ℕ → ℕ → List ℕ → List ℕ → List Rule
+dealRules S secrets random i g h =
+    dealInputs S secrets random ++ size g (dim S) ∷ size h (dim S) ∷ dealElements S secrets random ++ (5 when leb (S .n) i) ∷ []
+
+abbrev pub dealCall : Setup → List ℕ → List ℕ → ℕ → List ℕ → List ℕ → Answer
+dealCall S secrets random i g h = answerBy (refusal (dealRules S secrets random i g h)) (given [])
+
+abbrev pub dealLeftG : Setup → List ℕ → List ℕ → ℕ → List ℕ → List ℕ → List ℕ
+dealLeftG S secrets random i g h = leftBy (refusal (dealRules S secrets random i g h)) (partG S (dealt S secrets random) i) g
+
+abbrev pub dealLeftH : Setup → List ℕ → List ℕ → ℕ → List ℕ → List ℕ → List ℕ
+dealLeftH S secrets random i g h = leftBy (refusal (dealRules S secrets random i g h)) (partH S (dealt S secrets random) i) h
+
+-- DEAL TO ALL: every holder's g, one after the other, and every holder's h
+abbrev pub dealAllRules : Setup → List ℕ → List ℕ → List ℕ → List ℕ → List Rule
+dealAllRules S secrets random gs hs =
+    dealInputs S secrets random ++ size gs (S .n * dim S) ∷ size hs (S .n * dim S) ∷ dealElements S secrets random
+
+abbrev pub dealAllCall : Setup → List ℕ → List ℕ → List ℕ → List ℕ → Answer
+dealAllCall S secrets random gs hs = answerBy (refusal (dealAllRules S secrets random gs hs)) (given [])
+
+abbrev pub dealAllLeftG : Setup → List ℕ → List ℕ → List ℕ → List ℕ → List ℕ
+dealAllLeftG S secrets random gs hs =
+    leftBy (refusal (dealAllRules S secrets random gs hs)) (tab (S .n * dim S) (flat (dim S) (λ i. at (partG S (dealt S secrets random) i)))) gs
+
+abbrev pub dealAllLeftH : Setup → List ℕ → List ℕ → List ℕ → List ℕ → List ℕ
+dealAllLeftH S secrets random gs hs =
+    leftBy (refusal (dealAllRules S secrets random gs hs)) (tab (S .n * dim S) (flat (dim S) (λ i. at (partH S (dealt S secrets random) i)))) hs
+
+-- PAIR VALUE of the holder with row part g, for holder i
+abbrev pub pairValueRules : Setup → List ℕ → ℕ → List Rule
+pairValueRules S g i =
+    limits S ++ size (S .M) (S .n * dim S) ∷ size g (dim S)
+    ∷ elements (S .p) (S .M) ∷ elements (S .p) g ∷ (5 when leb (S .n) i) ∷ []
+
+abbrev pub pairValueCall : Setup → List ℕ → ℕ → Answer
+pairValueCall S g i = answerBy (refusal (pairValueRules S g i)) (given (pairValue S g i ∷ []))
+
+-- JUDGE, on the column part h and the n values received
+abbrev pub judgeRules : Setup → List ℕ → List ℕ → List Rule
+judgeRules S h values =
+    limits S ++ size (S .M) (S .n * dim S) ∷ size h (dim S) ∷ size values (S .n)
+    ∷ elements (S .p) (S .M) ∷ elements (S .p) h ∷ elements (S .p) values ∷ []
+
+abbrev pub judgeCall : Setup → List ℕ → List ℕ → Answer
+judgeCall S h values = answerBy (refusal (judgeRules S h values)) (judge S h values)
+
+-- OUTCOME, on the row part g and the n verdicts received, into ℓ lent shares; it needs no matrix. "12: verdict neither 0 nor 1"
+abbrev pub outcomeRules : Setup → List ℕ → List ℕ → List ℕ → List Rule
+outcomeRules S g verdicts out =
+    limits S ++ size g (dim S) ∷ size verdicts (S .n) ∷ size out (S .l)
+    ∷ elements (S .p) g ∷ (12 when not (allBelow 2 verdicts)) ∷ []
+
+abbrev pub outcomeCall : Setup → List ℕ → List ℕ → List ℕ → Answer
+outcomeCall S g verdicts out = answerBy (refusal (outcomeRules S g verdicts out)) (outcome S verdicts)
+
+-- shares are written only where they are kept
+abbrev pub outcomeLeft : Setup → List ℕ → List ℕ → List ℕ → List ℕ
+outcomeLeft S g verdicts out =
+    leftBy (refusal (outcomeRules S g verdicts out)) (pick (isKept S verdicts) (shares S g) out) out
+
+-- REHEARSE, on all n parts
+abbrev pub rehearseRules : Setup → List ℕ → List ℕ → List Rule
+rehearseRules S gs hs =
+    limits S ++ size (S .M) (S .n * dim S) ∷ size gs (S .n * dim S) ∷ size hs (S .n * dim S)
+    ∷ elements (S .p) (S .M) ∷ elements (S .p) gs ∷ elements (S .p) hs ∷ []
+
+abbrev pub rehearseCall : Setup → List ℕ → List ℕ → Answer
+rehearseCall S gs hs = answerBy (refusal (rehearseRules S gs hs)) (rehearse S gs hs)
+
+-- SETS. "5: a set bit at or above n", which s has exactly where it is 2 ^ n or more
+abbrev pub beyond : ℕ → ℕ → Bool
+beyond n s = leb (2 ^ n) s
+
+abbrev pub setRules : Setup → ℕ → List Rule
+setRules S s = limits S ++ size (S .M) (S .n * dim S) ∷ elements (S .p) (S .M) ∷ (5 when beyond (S .n) s) ∷ []
+
+abbrev pub decide : Bool → Answer
+decide b = pick b yes no
+
+abbrev pub determinesCall : Setup → ℕ → Answer
+determinesCall S s = answerBy (refusal (setRules S s)) (decide (determines S (holds s)))
+
+abbrev pub privateCall : Setup → ℕ → Answer
+privateCall S s = answerBy (refusal (setRules S s)) (decide (isPrivate S (holds s)))
+
+-- JUDGE A SET at position q, into a lent buffer of 32 entries
+abbrev pub judgeSetRules : Setup → ℕ → ℕ → List ℕ → List Rule
+judgeSetRules S s q out =
+    limits S ++ size (S .M) (S .n * dim S) ∷ size out 32 ∷ elements (S .p) (S .M) ∷ (5 when beyond (S .n) s) ∷ (5 when leb (S .l) q) ∷ []
+
+abbrev pub judgeSetCall : Setup → ℕ → ℕ → List ℕ → Answer
+judgeSetCall S s q out = answerBy (refusal (judgeSetRules S s q out)) (kind S (holds s) q)
+
+-- "It writes one of the kind found in a lent buffer of 32 entries: row entries by rising holder, or the vector, then zeros; for neither, 32
+-- zeros. Which one of its kind is left open"
+pub data JudgeSetLeft (S : Setup) (X : ℕ → Bool) (q : ℕ) : Answer → List ℕ → Type 0 where
+  of-row : (r : List ℕ) → Vec (S .p) (length (members (S .n) X)) r → isRow S (members (S .n) X) q r ≡ true
+      → JudgeSetLeft S X q isARow (r ++ replicate (32 - length r) 0)
+  of-vector : (w : List ℕ) → Vec (S .p) (dim S) w → isSweep S (members (S .n) X) q w ≡ true
+      → JudgeSetLeft S X q isAVector (w ++ replicate (32 - length w) 0)
+  of-neither : JudgeSetLeft S X q isNeither (replicate 32 0)
+
+-- OPEN, by the set s and its shares by rising holder, into ℓ lent secrets
+abbrev pub openRules : Setup → ℕ → List ℕ → List ℕ → List Rule
+openRules S s xs out =
+    limits S ++ size (S .M) (S .n * dim S) ∷ size xs (length (members 32 (holds s))) ∷ size out (S .l)
+    ∷ elements (S .p) (S .M) ∷ elements (S .p) xs ∷ (5 when beyond (S .n) s) ∷ []
+
+-- the secrets stand in the buffer; refusals 6 and 7 are the opening's own
+abbrev pub openAnswer : Answer → Answer
+openAnswer a = record { number = a .number; values = pick (eqb (a .number) 0) [] (a .values) }
+
+abbrev pub openCall : Setup → ℕ → List ℕ → List ℕ → Answer
+openCall S s xs out = answerBy (refusal (openRules S s xs out)) (openAnswer (opening S (holds s) xs))
+
+abbrev pub openLeft : Setup → ℕ → List ℕ → List ℕ → List ℕ
+openLeft S s xs out =
+    leftBy (refusal (openRules S s xs out)) (leftBy (opening S (holds s) xs .number) (opening S (holds s) xs .values) out) out
+
+-- COMBINE. "3: a lent length isn't the one needed, over 64 terms"; "14: a combination with both lists empty"
+abbrev pub combineRules : ℕ → List ℕ → List ℕ → List Rule
+combineRules p cs xs =
+    (1 when not (isField p)) ∷ size xs (length cs) ∷ (3 when ltb 64 (length cs))
+    ∷ elements p cs ∷ elements p xs ∷ (14 when eqb (length cs) 0 && eqb (length xs) 0) ∷ []
+
+abbrev pub combineCall : ℕ → List ℕ → List ℕ → Answer
+combineCall p cs xs = answerBy (refusal (combineRules p cs xs)) (given (combine p cs xs ∷ []))

@@ -1,0 +1,82 @@
+-- Dealing and judging (document 01, "Dealing and judging", steps 1 to 5; source document 000, figure 3).
+-- place: where the entry of F in row k and column b stands in the lent random list
+-- dealt: F by rows, from the secret vectors and the lent random entries
+-- partG, partH: holder i's part
+-- pairValue: the pair value for i of the holder whose row part is g
+-- expected: what the value from j has to be for the holder whose column part is h
+-- judge: a holder's judgement of the n values it received
+-- isKept, outcome, shares: the end of a dealing, from the n verdicts received
+-- rehearse: the dealer's rehearsal on all n parts
+use mathlib.Core.Bool.{Bool, not, _&&_}
+use mathlib.Core.List.{List, [], _∷_}
+use Prim.Native.Nat.{ℕ, _+_, _-_, _*_, _/_, _%_}
+use lib.Dec.{eqb, ltb}
+use lib.ListN.{take}
+use Rattle.base.specs.Choice.{pick}
+use Rattle.base.specs.Rules.{Answer}
+use Rattle.base.specs.Search.{first}
+use Rattle.base.specs.Fill.{tab}
+use Rattle.base.specs.Matrix.{entry, flat}
+use Rattle.linear.specs.Dot.{at, dot}
+use Rattle.scheme.specs.Setup.{Setup, dim, row}
+use Rattle.scheme.specs.Answers.{accepts, rejects, kept, aborted, fair, disagree}
+
+-- 1. "F has d rows and d columns. Its entry in row k and column b, both below ℓ, is position k of secret vector b. The other entries are the
+-- lent random ones, row by row": e of them in each row below ℓ, then d in each
+unfoldable pub place : Setup → ℕ → ℕ → ℕ
+place S k b = pick (ltb k (S .l)) (k * S .e + (b - S .l)) (S .l * S .e + (k - S .l) * dim S + b)
+
+-- position k of secret vector b stands at b * ℓ + k
+unfoldable pub dealtEntry : Setup → List ℕ → List ℕ → ℕ → ℕ → ℕ
+dealtEntry S secrets random k b = pick (ltb k (S .l) && ltb b (S .l)) (entry (S .l) secrets b k) (at random (place S k b))
+
+unfoldable pub dealt : Setup → List ℕ → List ℕ → List ℕ
+dealt S secrets random = tab (dim S * dim S) (flat (dim S) (dealtEntry S secrets random))
+
+-- 2. "Holder i's part is g_i = m_i F (a row) and h^i = F m_i (a column), d entries each"
+unfoldable pub partG : Setup → List ℕ → ℕ → List ℕ
+partG S F i = tab (dim S) (λ b. dot (dim S) (row S i) (λ k. entry (dim S) F k b) % S .p)
+
+unfoldable pub partH : Setup → List ℕ → ℕ → List ℕ
+partH S F i = tab (dim S) (λ k. dot (dim S) (λ b. entry (dim S) F k b) (row S i) % S .p)
+
+-- 3. "Holder j's pair value for i is g_j · m_i, sent to every i, itself included"
+unfoldable pub pairValue : Setup → List ℕ → ℕ → ℕ
+pairValue S g i = dot (dim S) (at g) (row S i) % S .p
+
+-- 4. "Holder i accepts if for every j the value received equals m_j · h^i. Otherwise it rejects, naming the lowest j that differs"
+unfoldable pub expected : Setup → List ℕ → ℕ → ℕ
+expected S h j = dot (dim S) (row S j) (at h) % S .p
+
+unfoldable pub differs : Setup → List ℕ → List ℕ → ℕ → Bool
+differs S h values j = not (eqb (at values j) (expected S h j))
+
+unfoldable pub judge : Setup → List ℕ → List ℕ → Answer
+judge S h values = let j = first (differs S h values) (S .n) in pick (ltb j (S .n)) (rejects j) accepts
+
+-- 5. "If all n verdicts are accept, holder i keeps g_i[b] as its share of column b, for b below ℓ. Otherwise the outcome is aborted, naming the
+-- lowest holder that said reject"
+unfoldable pub saidReject : List ℕ → ℕ → Bool
+saidReject verdicts i = not (eqb (at verdicts i) 1)
+
+unfoldable pub isKept : Setup → List ℕ → Bool
+isKept S verdicts = not (ltb (first (saidReject verdicts) (S .n)) (S .n))
+
+unfoldable pub outcome : Setup → List ℕ → Answer
+outcome S verdicts = pick (isKept S verdicts) kept (aborted (first (saidReject verdicts) (S .n)))
+
+abbrev pub shares : Setup → List ℕ → List ℕ
+shares S g = take (S .l) g
+
+-- "The dealer's rehearsal takes all n parts and answers fair, or the first pair that disagrees, by i and then by j, where i checks the value of
+-- j." Part i of a list of n parts; the pair (i, j) as the number i * n + j, which rises by i and then by j
+abbrev pub part : Setup → List ℕ → ℕ → List ℕ
+part S parts i = tab (dim S) (entry (dim S) parts i)
+
+unfoldable pub disagrees : Setup → List ℕ → List ℕ → ℕ → ℕ → Bool
+disagrees S gs hs i j = not (eqb (pairValue S (part S gs j) i) (expected S (part S hs i) j))
+
+unfoldable pub rehearse : Setup → List ℕ → List ℕ → Answer
+rehearse S gs hs =
+    let t = first (flat (S .n) (disagrees S gs hs)) (S .n * S .n) in
+    pick (ltb t (S .n * S .n)) (disagree (t / S .n) (t % S .n)) fair

@@ -1,0 +1,36 @@
+-- Openings and combinations (document 01, "Sets and openings").
+-- gives: the vector v gives every share, the shares by rising holder
+-- opening: the secrets as values, or refusal 6 with the lowest position that has no row, or refusal 7
+-- combine: the sum of the products of constants and shares
+use mathlib.Core.Bool.{Bool, not}
+use mathlib.Core.List.{List}
+use mathlib.Core.Option.{Option, none, some}
+use Prim.Native.Nat.{ℕ, _%_}
+use lib.Dec.{eqb, ltb}
+use lib.ListN.{length, take}
+use Rattle.base.specs.Choice.{pick}
+use Rattle.base.specs.Rules.{Answer, given}
+use Rattle.base.specs.Search.{every, first, firstVec}
+use Rattle.linear.specs.Dot.{at, dot}
+use Rattle.scheme.specs.Setup.{Setup, dim}
+use Rattle.scheme.specs.Answers.{undetermined, inconsistent}
+use Rattle.scheme.specs.Sets.{members, rowAt, hasRow}
+
+unfoldable pub gives : Setup → List ℕ → List ℕ → List ℕ → Bool
+gives S ms xs v = every (length ms) (λ a. eqb (dot (dim S) (rowAt S ms a) (at v) % S .p) (at xs a))
+
+-- "The ℓ secrets it writes are the first ℓ entries of any vector of d entries that gives every share"; "7: determined, but no vector gives all
+-- the shares"
+abbrev pub openedBy : ℕ → Option (List ℕ) → Answer
+openedBy l none = inconsistent
+openedBy l (some v) = given (take l v)
+
+-- "6 and the lowest position with no row: the opening set doesn't determine the secrets"
+unfoldable pub opening : Setup → (ℕ → Bool) → List ℕ → Answer
+opening S X xs =
+    let q = first (λ k. not (hasRow S X k)) (S .l) in
+    pick (ltb q (S .l)) (undetermined q) (openedBy (S .l) (firstVec (S .p) (dim S) (gives S (members (S .n) X) xs)))
+
+-- "A combination takes constants and one holder's shares, 1 to 64 of each, and gives the sum of their products"
+unfoldable pub combine : ℕ → List ℕ → List ℕ → ℕ
+combine p cs xs = dot (length cs) (at cs) (at xs) % p
