@@ -1,0 +1,566 @@
+-- Demand 3, proved. With a reconstruction row r for position b over the group, g_j[b] = Σ_i r_i (g_j · m_i) = Σ_i r_i (m_j · h^i) = m_j · (Σ_i r_i h^i), so the
+-- vector Σ_i r_i h^i gives every member's share of column b; its first ℓ entries are fixed by the shares, because the group determines them. The own pairs
+-- are used, no inverse is.
+use mathlib.Core.Path.{_≡_, refl, ap, ap₂, sym, _∙_, _≡⟨_⟩_, _∎}
+use mathlib.Core.Bool.{Bool, true, false, _&&_, not, false≢true}
+use mathlib.Core.List.{List, [], _∷_}
+use mathlib.Core.Logic.{_⊎_, inl, inr, ⊎-elim}
+use mathlib.Core.Option.{Option, none, some, Option·none-ne-some}
+use Prim.Native.Nat.{ℕ, zero, suc, _+_, _-_, _*_, _/_, _%_, _^_, _≤_, _<_}
+use native.Mathlib.Nat.{mod-mod, mod-lt, mod-eq-of-lt}
+use native.Mathlib.Omega.{arith}
+use borrow.Author.Tests.{eqb-true, eq-eqb, not-true, not-false, ltb-true, ltb-false, lt-ltb, le-ltb}
+use lib.Dec.{eqb, ltb}
+use lib.Arith.{digits-lt, digits-div, digits-mod}
+use lib.ListN.{length, getD, take}
+use lib.Seq.{ext-getD, getD-take, length-take-le}
+use Rattle.base.specs.Choice.{pick}
+use Rattle.base.specs.Rules.{Answer, refusal, refused, given}
+use Rattle.base.specs.Sum.{sum}
+use Rattle.base.specs.Search.{every, first, First, found, missing, firstVec, Vec}
+use Rattle.base.specs.Fill.{tab}
+use Rattle.base.specs.Matrix.{entry, flat, allBelow}
+use Rattle.base.proofs.Choice.{and-left, and-right}
+use Rattle.base.proofs.Search.{every-at, every-all, first-is, first-missing, firstVec-sound, firstVec-complete}
+use Rattle.base.proofs.Fill.{length-tab, getD-tab, tab-is, tab-ext, tab-vec, flat-at}
+use Rattle.base.proofs.Matrix.{below-by, below-is}
+use Rattle.field.specs.Prime.{Prime}
+use Rattle.linear.specs.Dot.{at, dot, RowFor}
+use Rattle.linear.proofs.Dot.{dot-comm, dot-ext, dot-mod-right, dot-assoc, row-reads}
+use Rattle.scheme.specs.Setup.{Setup, dim, row, Limits, IsSetup}
+use Rattle.scheme.specs.Answers.{accepts, kept, yes, no, inconsistent, undetermined, answerBy, leftBy}
+use Rattle.scheme.specs.Dealing.{place, dealtEntry, dealt, partG, partH, pairValue, expected, judge, outcome, isKept, shares}
+use Rattle.scheme.specs.Sets.{holds, members, rowAt, hasRow, determines}
+use Rattle.scheme.specs.Opening.{gives, opening, openedBy, combine}
+use Rattle.scheme.specs.Calls.{decide, pairValueCall, judgeCall, judgeRules, outcomeCall, outcomeLeft, outcomeRules, determinesCall, setRules, openRules, openCall, openLeft, openAnswer, combineRules, combineCall, pairValueRules, dealRules, dealCall, dealLeftG, dealLeftH}
+use Rattle.scheme.specs.Demand.{Dealing, Member, Keeps, Done, Terms, InLimits, constants, sharesOver, Handed, Array, column, IsArray, AgreesAt, Agrees, ExactlyOne, secretsOver, Opens, Refused, by-four, by-seven, Found, Honest, arrayDealt, HonestFound, Demand3}
+use Rattle.scheme.proofs.Calls.{not-refused, limits-prime, limits-pos, set-ok, SetOk, judge-ok, JudgeOk, judge-accepts, outcome-ok, OutcomeOk, outcome-accepts, pairValue-ok, PairValueOk, pairValue-accepts, open-by-shares, CombineOk, combine-accepts, DealOk, deal-ok, below-vec}
+use Rattle.scheme.proofs.Verdicts.{accept-means, accept-when, kept-means, kept-when}
+use Rattle.scheme.proofs.Members.{member-at, place-of, members-wide}
+use Rattle.scheme.proofs.Sets.{theRow, theRow-is, row-grows, same-secrets}
+
+-- PRODUCTS WITH TABLES
+dot-tab : (d : ℕ) (u f : ℕ → ℕ) → dot d u (at (tab d f)) ≡ dot d u f
+dot-tab d u f = dot-ext d u _ f (λ k l. getD-tab d f 0 k l)
+
+dot-reduced : (p d : ℕ) (u f : ℕ → ℕ) → dot d u (at (tab d (λ c. f c % p))) % p ≡ dot d u f % p
+dot-reduced p d u f = ap (λ z. z % p) (dot-tab d u _) ∙ dot-mod-right p d u _ f (λ j l. mod-mod (f j) p)
+
+combine-tab : (p m : ℕ) (c x : ℕ → ℕ) → combine p (tab m c) (tab m x) ≡ dot m c x % p
+unfolding combine
+combine-tab p m c x =
+    ap (λ k. dot k (at (tab m c)) (at (tab m x)) % p) (length-tab m c)
+    ∙ ap (λ z. z % p) (dot-tab m (at (tab m c)) x ∙ dot-comm m (at (tab m c)) x ∙ dot-tab m x c ∙ dot-comm m x c)
+
+-- vectors that agree below l begin alike
+takes : (l : ℕ) (v w : List ℕ) → l ≤ length v → l ≤ length w → ((k : ℕ) → k < l → at v k ≡ at w k) → take l v ≡ take l w
+takes l v w hv hw same =
+    ext-getD 0 (take l v) (take l w) (length-take-le l v hv ∙ sym (length-take-le l w hw))
+    (λ k h. let m : k < l = omega (arith, length-take-le l v hv) in getD-take l v k 0 m ∙ same k m ∙ sym (getD-take l w k 0 m))
+
+one-value : (x y : ℕ) → given (x ∷ []) ≡ given (y ∷ []) → x ≡ y
+one-value x y e = ap (λ (a : Answer). at (a .values) 0) e
+
+decided : (b : Bool) → decide b ≡ yes → b ≡ true
+decided true e = refl
+decided false e = absurd (let z : _≡_ {A = ℕ} 0 1 = ap (λ (a : Answer). at (a .values) 0) e in omega arith)
+
+-- a group that determines, by its call
+group-ok : (S : Setup) (group : ℕ) → determinesCall S group ≡ yes → SetOk S group × (determines S (holds group) ≡ true)
+group-ok S group e =
+    let r = not-refused (refusal (setRules S group)) (decide (determines S (holds group))) (1 ∷ []) e in
+    (set-ok S group (r .0), decided (determines S (holds group)) (r .1))
+
+-- EXACTLY ONE ARRAY
+module _ (S : Setup) (group : ℕ) (big : 1 < S .p) (det : determines S (holds group) ≡ true) (D : Dealing) where
+  -- two arrays that agree at column b have the same column b
+  same-column : (A B : Array) (b : ℕ) → AgreesAt S group D A b → AgreesAt S group D B b → column A b ≡ column B b
+  same-column A B b x y =
+      sym (x .begins)
+      ∙ takes (S .l) (x .vector) (y .vector) (omega (arith, x .ok .size)) (omega (arith, y .ok .size))
+        (λ k h.
+          sym (mod-eq-of-lt (x .ok .small k (omega arith)))
+          ∙ same-secrets S (holds group) big det (at (x .vector)) (at (y .vector)) (λ i l t. x .gives i (l, t) ∙ sym (y .gives i (l, t))) k h
+          ∙ mod-eq-of-lt (y .ok .small k (omega arith)))
+      ∙ y .begins
+
+  only : (A B : Array) → IsArray S A → IsArray S B → Agrees S group D A → Agrees S group D B → A ≡ B
+  only A B isA isB agA agB =
+      ext-getD [] A B (isA .count ∙ sym (isB .count)) (λ b h. let l : b < S .l = omega (arith, isA .count) in same-column A B b (agA b l) (agB b l))
+
+  exactly-one : (A : Array) → IsArray S A → Agrees S group D A → ExactlyOne S group D A
+  exactly-one A isA agA = record { array = isA; agrees = agA; others = others′ }
+    where
+      others′ : (B : Array) → IsArray S B → (B ≡ A → ⊥) → (b : ℕ) × (b < S .l) × (AgreesAt S group D B b → ⊥)
+      others′ B isB ne = go (first wrong (S .l)) (first-is wrong (S .l))
+        where
+          wrong : ℕ → Bool
+          wrong b = not (every (S .l) (λ k. eqb (at (column B b) k) (at (column A b) k)))
+          go : (r : ℕ) → First wrong (S .l) r → (b : ℕ) × (b < S .l) × (AgreesAt S group D B b → ⊥)
+          go r (missing e h) =
+              absurd (ne (ext-getD [] B A (isB .count ∙ sym (isA .count))
+              (λ b m.
+                let l : b < S .l = omega (arith, isB .count) in
+                ext-getD 0 (column B b) (column A b) (isB .each b l .size ∙ sym (isA .each b l .size))
+                (λ k o. eqb-true _ _ (every-at (S .l) _ (not-false _ (h b l)) k (omega (arith, isB .each b l .size)))))))
+          go r (found l e h) =
+              (r, l, λ ag. false≢true (sym (not-true _ e) ∙ every-all (S .l) _ (λ k m. eq-eqb _ _ (ap (λ c. at c k) (same-column B A r ag (agA r l))))))
+
+-- WHAT THE GROUP'S MEMBERS HAVE
+module _ (S : Setup) (group : ℕ) {I : Type 0} (D : I → Dealing) (done : Done S group D) where
+  ok : SetOk S group
+  ok = group-ok S group (done .determined) .0
+
+  det : determines S (holds group) ≡ true
+  det = group-ok S group (done .determined) .1
+
+  pos : 0 < S .p
+  pos = limits-pos S (ok .setup .limits)
+
+  big : 1 < S .p
+  big = limits-prime S (ok .setup .limits) .big
+
+  module _ (t : I) (i : ℕ) (m : Member S group i) where
+    judged : (j : ℕ) → j < S .n → at (D t .values i) j ≡ expected S (D t .h i) j
+    judged = accept-means S (D t .h i) (D t .values i) (not-refused (refusal (judgeRules S (D t .h i) (D t .values i))) _ _ (done .keepers t i m .judged) .1)
+
+    settled : (refusal (outcomeRules S (D t .g i) (D t .verdicts i) (done .keepers t i m .lent)) ≡ 0) × (outcome S (D t .verdicts i) ≡ kept)
+    settled = not-refused (refusal (outcomeRules S (D t .g i) (D t .verdicts i) (done .keepers t i m .lent))) _ _ (done .keepers t i m .settled)
+
+    part-g : Vec (S .p) (dim S) (D t .g i)
+    part-g = outcome-ok S (D t .g i) (D t .verdicts i) (done .keepers t i m .lent) (settled .0) .part
+
+    shares-are : D t .shares i ≡ take (S .l) (D t .g i)
+    shares-are = sym (done .keepers t i m .share) ∙ rw (settled .0, kept-means S (D t .verdicts i) (settled .1)) refl
+
+    share-at : (b : ℕ) → b < S .l → at (D t .shares i) b ≡ at (D t .g i) b
+    share-at b l = ap (λ v. at v b) shares-are ∙ getD-take (S .l) (D t .g i) b 0 l
+
+  sent : (t : I) (i j : ℕ) → Member S group i → Member S group j → at (D t .values i) j ≡ pairValue S (D t .g j) i
+  sent t i j mi mj = sym (one-value _ _ (not-refused (refusal (pairValueRules S (D t .g j) i)) _ _ (done .delivered t i j mi mj) .1))
+
+  -- THE ARRAY OF A DEALING: behind column b stands the vector that b's row over the group makes of the h's
+  ms : List ℕ
+  ms = members (S .n) (holds group)
+
+  behind : I → ℕ → ℕ → ℕ
+  behind t b c = dot (length ms) (at (theRow S (holds group) b)) (λ a. at (D t .h (at ms a)) c)
+
+  -- it gives every member's share
+  behind-gives : (t : I) (b : ℕ) → b < S .l → (j : ℕ) → Member S group j → dot (dim S) (row S j) (behind t b) % S .p ≡ at (D t .shares j) b
+  unfolding behind ms pairValue expected determines
+  behind-gives t b l j mj =
+      let r = at (theRow S (holds group) b) in
+      let H : ℕ → ℕ → ℕ = λ a. at (D t .h (at ms a)) in
+      let g = at (D t .g j) in
+      dot (dim S) (row S j) (behind t b) % S .p
+        ≡⟨ ap (λ z. z % S .p) (dot-comm (dim S) (row S j) (behind t b) ∙ sym (dot-assoc (length ms) (dim S) r (row S j) H)) ⟩
+      dot (length ms) r (λ a. dot (dim S) (H a) (row S j)) % S .p
+        ≡⟨ dot-mod-right (S .p) (length ms) r _ _ (λ a o.
+          let mi : Member S group (at ms a) = member-at (S .n) (holds group) a o in
+          ap (λ z. z % S .p) (dot-comm (dim S) (H a) (row S j))
+          ∙ sym (judged t (at ms a) mi j (mj .0)) ∙ sent t (at ms a) j mi mj
+          ∙ ap (λ z. z % S .p) (dot-comm (dim S) g (row S (at ms a)))) ⟩
+      dot (length ms) r (λ a. dot (dim S) (rowAt S ms a) g) % S .p
+        ≡⟨ row-reads (S .p) (length ms) (dim S) (rowAt S ms) b r (omega arith) (theRow-is S (holds group) b big (every-at (S .l) (hasRow S (holds group)) det b l)) g ⟩
+      g b % S .p
+        ≡⟨ mod-eq-of-lt (part-g t j mj .small b (omega arith)) ⟩
+      g b
+        ≡⟨ sym (share-at t j mj b l) ⟩
+      at (D t .shares j) b ∎
+
+  vectorOf : I → ℕ → List ℕ
+  vectorOf t b = tab (dim S) (λ c. behind t b c % S .p)
+
+  vector-ok : (t : I) (b : ℕ) → Vec (S .p) (dim S) (vectorOf t b)
+  unfolding vectorOf
+  vector-ok t b = tab-vec (S .p) (dim S) _ (λ k l. mod-lt _ pos)
+
+  arrayOf : I → Array
+  arrayOf t = tab (S .l) (λ b. take (S .l) (vectorOf t b))
+
+  array-column : (t : I) (b : ℕ) → b < S .l → column (arrayOf t) b ≡ take (S .l) (vectorOf t b)
+  unfolding arrayOf
+  array-column t b h = getD-tab (S .l) (λ b. take (S .l) (vectorOf t b)) [] b h
+
+  array-is : (t : I) → IsArray S (arrayOf t)
+  array-is t =
+      record {
+        count = unfold arrayOf in length-tab (S .l) _;
+        each = λ b h. rw (array-column t b h)
+          (record {
+            size = length-take-le (S .l) (vectorOf t b) (omega (arith, vector-ok t b .size));
+            small = λ k l. rw (getD-take (S .l) (vectorOf t b) k 0 l) (vector-ok t b .small k (omega arith))
+          })
+      }
+
+  array-agrees : (t : I) → Agrees S group (D t) (arrayOf t)
+  array-agrees t b h =
+      record {
+        vector = vectorOf t b;
+        ok = vector-ok t b;
+        begins = sym (array-column t b h);
+        gives = λ i m. unfold vectorOf in dot-reduced (S .p) (dim S) (row S i) (behind t b) ∙ behind-gives t b h i m
+      }
+
+  -- position k of column b, before and after reduction
+  array-at : (t : I) (b k : ℕ) → b < S .l → k < S .l → at (column (arrayOf t) b) k ≡ behind t b k % S .p
+  unfolding vectorOf
+  array-at t b k h l =
+      ap (λ c. at c k) (array-column t b h) ∙ getD-take (S .l) (vectorOf t b) k 0 l ∙ getD-tab (dim S) _ 0 k (omega arith)
+
+  -- OPENINGS
+  module _ (ts : Terms I) (openers : ℕ) (handed out : List ℕ) (hand : Handed S group D ts openers handed) (room : length out ≡ S .l) where
+    both : ℕ → Bool
+    both i = holds openers i && holds group i
+
+    xs : List ℕ
+    xs = secretsOver S arrayOf ts
+
+    -- the combination of the vectors behind the columns
+    whole : ℕ → ℕ
+    whole k = dot (ts .count) (ts .constant) (λ t. behind (ts .dealing t) (ts .column t) k)
+
+    whole-gives : (i : ℕ) → Member S group i → dot (dim S) (row S i) whole % S .p ≡ combine (S .p) (constants ts) (sharesOver D ts i)
+    unfolding whole
+    whole-gives i mi =
+        ap (λ z. z % S .p) (dot-comm (dim S) (row S i) whole ∙ sym (dot-assoc (ts .count) (dim S) (ts .constant) (row S i) (λ t. behind (ts .dealing t) (ts .column t))))
+        ∙ dot-mod-right (S .p) (ts .count) (ts .constant) _ _
+          (λ t l. ap (λ z. z % S .p) (dot-comm (dim S) (behind (ts .dealing t) (ts .column t)) (row S i))
+            ∙ behind-gives (ts .dealing t) (ts .column t) (hand .limits .columns t l) i mi
+            ∙ sym (mod-eq-of-lt (share-small t l)))
+        ∙ sym (combine-tab (S .p) (ts .count) (ts .constant) _)
+      where
+        share-small : (t : ℕ) → t < ts .count → at (D (ts .dealing t) .shares i) (ts .column t) < S .p
+        share-small t l =
+            rw (share-at (ts .dealing t) i mi (ts .column t) (hand .limits .columns t l)) (part-g (ts .dealing t) i mi .small (ts .column t) (omega (arith, hand .limits .columns t l)))
+
+    whole-secret : (k : ℕ) → k < S .l → whole k % S .p ≡ at xs k
+    unfolding whole xs
+    whole-secret k h =
+        dot-mod-right (S .p) (ts .count) (ts .constant) _ _
+          (λ t l. sym (mod-mod _ (S .p)) ∙ ap (λ z. z % S .p) (sym (array-at (ts .dealing t) (ts .column t) k (hand .limits .columns t l) h)))
+        ∙ sym (combine-tab (S .p) (ts .count) (ts .constant) _)
+        ∙ sym (getD-tab (S .l) _ 0 k h)
+
+    -- what a member hands in
+    handed-is : (a : ℕ) → a < length (members (S .n) (holds openers)) → holds group (at (members (S .n) (holds openers)) a) ≡ true
+        → at handed a ≡ combine (S .p) (constants ts) (sharesOver D ts (at (members (S .n) (holds openers)) a))
+    handed-is a l t = sym (one-value _ _ (not-refused (refusal (combineRules (S .p) (constants ts) (sharesOver D ts (at (members (S .n) (holds openers)) a)))) _ _ (hand .by-rule a l t) .1))
+
+    -- a vector that gives every share handed in begins with that combination of the secrets
+    opened-right : (v : List ℕ) → Vec (S .p) (dim S) v → gives S (members (S .n) (holds openers)) handed v ≡ true → take (S .l) v ≡ xs
+    unfolding gives both xs
+    opened-right v vec g =
+        ext-getD 0 (take (S .l) v) _ (length-take-le (S .l) v (omega (arith, vec .size)) ∙ sym (length-tab (S .l) _))
+        (λ k m.
+          let h : k < S .l = omega (arith, length-take-le (S .l) v (omega (arith, vec .size))) in
+          getD-take (S .l) v k 0 h
+          ∙ sym (mod-eq-of-lt (vec .small k (omega arith)))
+          ∙ same-secrets S both big (hand .present) (at v) whole same k h
+          ∙ whole-secret k h)
+      where
+        same : (i : ℕ) → i < S .n → both i ≡ true → dot (dim S) (row S i) (at v) % S .p ≡ dot (dim S) (row S i) whole % S .p
+        same i l t =
+            let o : holds openers i ≡ true = and-left (holds openers i) (holds group i) t in
+            let q : holds group i ≡ true = and-right (holds openers i) (holds group i) t in
+            let a = place-of (S .n) (holds openers) i l o in
+            ap (λ j. dot (dim S) (row S j) (at v) % S .p) (sym (a .2))
+            ∙ eqb-true _ _ (every-at (length (members (S .n) (holds openers))) _ g (a .0) (a .1))
+            ∙ handed-is (a .0) (a .1) (ap (holds group) (a .2) ∙ q)
+            ∙ ap (λ j. combine (S .p) (constants ts) (sharesOver D ts j)) (a .2)
+            ∙ sym (whole-gives i (l, q))
+
+    -- 6 does not occur: the openers have a row wherever the group's members among them have one
+    rows-there : first (λ k. not (hasRow S (holds openers) k)) (S .l) ≡ S .l
+    unfolding determines both
+    rows-there =
+        first-missing _ (S .l)
+        (λ k h. ap not (row-grows S both (holds openers) k big (λ i l t. and-left (holds openers i) (holds group i) t) (every-at (S .l) (hasRow S both) (hand .present) k h)))
+
+    opening-is : opening S (holds openers) handed ≡ openedBy (S .l) (firstVec (S .p) (dim S) (gives S (members (S .n) (holds openers)) handed))
+    unfolding opening
+    opening-is = rw (rows-there, le-ltb (S .l) (S .l) (omega arith))
+
+    set-fits : SetOk S openers
+    set-fits = record { setup = ok .setup; inside = hand .below }
+
+    by-shares : refusal (openRules S openers handed out) ≡ pick (allBelow (S .p) handed) 0 4
+    by-shares = open-by-shares S openers handed out set-fits (hand .count ∙ ap length (sym (members-wide (S .n) 32 openers (hand .below) (ok .setup .limits .holders .1)))) room
+
+    -- an opening that is not refused by its table
+    opened : (a : Answer) → allBelow (S .p) handed ≡ true → opening S (holds openers) handed ≡ a
+        → (openCall S openers handed out ≡ openAnswer a) × (openLeft S openers handed out ≡ leftBy (a .number) (a .values) out)
+    opened a t e = let z : refusal (openRules S openers handed out) ≡ 0 = by-shares ∙ rw t refl in rw (z, e) (refl, refl)
+
+    opens′ : Opens S openers handed out xs ⊎ Refused S openers handed out
+    opens′ = go (allBelow (S .p) handed) refl
+      where
+        answer : (o : Option (List ℕ)) → firstVec (S .p) (dim S) (gives S (members (S .n) (holds openers)) handed) ≡ o → allBelow (S .p) handed ≡ true
+            → Opens S openers handed out xs ⊎ Refused S openers handed out
+        answer none e t =
+            let r = opened inconsistent t (opening-is ∙ ap (openedBy (S .l)) e) in
+            inr (by-seven (r .0) (r .1))
+        answer (some v) e t =
+            let r = opened (given (take (S .l) v)) t (opening-is ∙ ap (openedBy (S .l)) e) in
+            let w = firstVec-sound (S .p) (dim S) _ v e in
+            inl (record { answer = r .0; buffer = r .1 ∙ opened-right v (w .0) (w .1) })
+        go : (b : Bool) → allBelow (S .p) handed ≡ b → Opens S openers handed out xs ⊎ Refused S openers handed out
+        go true t = answer (firstVec (S .p) (dim S) (gives S (members (S .n) (holds openers)) handed)) refl t
+        go false t = let z : refusal (openRules S openers handed out) ≡ 4 = by-shares ∙ rw t refl in inr (by-four (rw z refl) (rw z refl))
+
+    never′ : ((i : ℕ) → Member S openers i → Member S group i) → Opens S openers handed out xs
+    never′ sub = finish (firstVec (S .p) (dim S) (gives S (members (S .n) (holds openers)) handed)) refl
+      where
+        at-place : (a : ℕ) → a < length (members (S .n) (holds openers)) → Member S group (at (members (S .n) (holds openers)) a)
+        at-place a l = sub _ (member-at (S .n) (holds openers) a l)
+        elements : allBelow (S .p) handed ≡ true
+        elements =
+            below-is (S .p) handed (λ a l.
+              let m : a < length (members (S .n) (holds openers)) = omega (arith, hand .count) in
+              rw (handed-is a m (at-place a m .1)) (unfold combine in mod-lt _ pos))
+        given-all : gives S (members (S .n) (holds openers)) handed (tab (dim S) (λ k. whole k % S .p)) ≡ true
+        given-all =
+            unfold gives in every-all (length (members (S .n) (holds openers))) _ (λ a l.
+              eq-eqb _ _ (dot-reduced (S .p) (dim S) (rowAt S (members (S .n) (holds openers)) a) whole ∙ whole-gives _ (at-place a l) ∙ sym (handed-is a l (at-place a l .1))))
+        finish : (o : Option (List ℕ)) → firstVec (S .p) (dim S) (gives S (members (S .n) (holds openers)) handed) ≡ o → Opens S openers handed out xs
+        finish none e =
+            let w = firstVec-complete (S .p) (dim S) _ (tab (dim S) (λ k. whole k % S .p)) (tab-vec (S .p) (dim S) _ (λ k l. mod-lt _ pos)) given-all in
+            absurd (Option·none-ne-some _ (sym e ∙ w .1))
+        finish (some v) e =
+            let r = opened (given (take (S .l) v)) elements (opening-is ∙ ap (openedBy (S .l)) e) in
+            let w = firstVec-sound (S .p) (dim S) _ v e in
+            record { answer = r .0; buffer = r .1 ∙ opened-right v (w .0) (w .1) }
+
+  one-column′ : (t : I) (b : ℕ) → b < S .l
+      → secretsOver S arrayOf (record { count = 1; constant = λ _. 1; dealing = λ _. t; column = λ _. b }) ≡ column (arrayOf t) b
+  one-column′ t b h =
+      sym (tab-is (S .l) _ 0 (column (arrayOf t) b) (array-is t .each b h .size)
+      (λ k l. sym (combine-tab (S .p) 1 (λ _. 1) (λ _. at (column (arrayOf t) b) k) ∙ ap (λ z. z % S .p) (single (at (column (arrayOf t) b) k)) ∙ mod-eq-of-lt (array-is t .each b h .small k l))))
+    where
+      single : (x : ℕ) → dot 1 (λ _. 1) (λ _. x) ≡ x
+      single x = unfold dot sum in omega arith
+
+  found′ : Found S group D
+  unfolding xs
+  found′ =
+      record {
+        array = arrayOf;
+        one = λ t. exactly-one S group big det (D t) (arrayOf t) (array-is t) (array-agrees t);
+        opens = opens′;
+        never-refused = never′;
+        one-column = one-column′
+      }
+
+-- WHERE ALL FOLLOW THE RULES
+g-at : (S : Setup) (F : List ℕ) (i b : ℕ) → b < dim S → at (partG S F i) b ≡ dot (dim S) (row S i) (λ k. entry (dim S) F k b) % S .p
+unfolding partG
+g-at S F i b l = getD-tab (dim S) _ 0 b l
+
+-- an entry of F is one of the lent ones, or 0 past their ends
+dealt-small : (S : Setup) (secrets random : List ℕ) → DealOk S secrets random → (k b : ℕ) → dealtEntry S secrets random k b < S .p
+unfolding dealtEntry
+dealt-small S secrets random ok k b = go (ltb k (S .l) && ltb b (S .l))
+  where
+    pos : 0 < S .p
+    pos = limits-pos S (ok .setup .limits)
+    go : (t : Bool) → pick t (entry (S .l) secrets b k) (at random (place S k b)) < S .p
+    go true = below-vec (S .p) _ secrets pos (ok .vectors) (b * S .l + k)
+    go false = below-vec (S .p) _ random pos (ok .entries) (place S k b)
+
+module _ (S : Setup) (secrets random : List ℕ) (D : Dealing) (hon : Honest S secrets random D) where
+  F : List ℕ
+  F = dealt S secrets random
+
+  module _ (i : ℕ) (l : i < S .n) where
+    not-declined : refusal (dealRules S secrets random i (hon .lentG) (hon .lentH)) ≡ 0
+    not-declined = not-refused (refusal (dealRules S secrets random i (hon .lentG) (hon .lentH))) (given []) [] (hon .dealing i l) .0
+
+    dealing-ok : DealOk S secrets random
+    dealing-ok = deal-ok S secrets random i (hon .lentG) (hon .lentH) not-declined .0
+
+    g-is : D .g i ≡ partG S F i
+    unfolding F
+    g-is = sym (hon .part-g i l) ∙ rw not-declined refl
+
+    h-is : D .h i ≡ partH S F i
+    unfolding F
+    h-is = sym (hon .part-h i l) ∙ rw not-declined refl
+
+    p-pos : 0 < S .p
+    p-pos = limits-pos S (dealing-ok .setup .limits)
+
+    part-g′ : Vec (S .p) (dim S) (D .g i)
+    part-g′ = rw g-is (unfold partG in tab-vec (S .p) (dim S) _ (λ k m. mod-lt _ p-pos))
+
+    part-h′ : Vec (S .p) (dim S) (D .h i)
+    part-h′ = rw h-is (unfold partH in tab-vec (S .p) (dim S) _ (λ k m. mod-lt _ p-pos))
+
+    value-is : (j : ℕ) → j < S .n → at (D .values i) j ≡ pairValue S (D .g j) i
+    value-is j m = sym (one-value _ _ (not-refused (refusal (pairValueRules S (D .g j) i)) _ _ (hon .arrived i j l m) .1))
+
+    values-ok : Vec (S .p) (S .n) (D .values i)
+    values-ok = record { size = hon .received i l; small = λ j m. rw (value-is j m) (unfold pairValue in mod-lt _ p-pos) }
+
+  -- g_j · m_i = m_i F m_j = m_j · h^i
+  pair-right : (i j : ℕ) → i < S .n → j < S .n → at (D .values i) j ≡ expected S (D .h i) j
+  unfolding pairValue expected partG partH
+  pair-right i j l m =
+      value-is i l j m
+      ∙ ap (λ g. pairValue S g i) (g-is j m)
+      ∙ ap (λ z. z % S .p) (dot-comm (dim S) (at (partG S F j)) (row S i))
+      ∙ dot-reduced (S .p) (dim S) (row S i) (λ b. dot (dim S) (row S j) (λ k. entry (dim S) F k b))
+      ∙ ap (λ z. z % S .p)
+        (dot-comm (dim S) (row S i) (λ b. dot (dim S) (row S j) (λ k. entry (dim S) F k b))
+        ∙ sym (dot-assoc (dim S) (dim S) (row S j) (row S i) (λ k b. entry (dim S) F k b)))
+      ∙ sym (dot-reduced (S .p) (dim S) (row S j) (λ k. dot (dim S) (λ b. entry (dim S) F k b) (row S i)))
+      ∙ ap (λ h. expected S h j) (sym (h-is i l))
+
+  accepted : (i : ℕ) → i < S .n → judgeCall S (D .h i) (D .values i) ≡ accepts
+  accepted i l =
+      rw (judge-accepts S (D .h i) (D .values i) (record { setup = dealing-ok i l .setup; part = part-h′ i l; received = values-ok i l }))
+      (accept-when S (D .h i) (D .values i) (λ j m. pair-right i j l m))
+
+  all-said : (i j : ℕ) → i < S .n → j < S .n → at (D .verdicts i) j ≡ 1
+  all-said i j l m = hon .said i j l m ∙ ap (λ (a : Answer). at (a .values) 0) (accepted j m)
+
+  keep′ : (i : ℕ) → i < S .n → Keeps S D i
+  keep′ i l =
+      record {
+        judged = accepted i l;
+        lent = hon .lent;
+        settled = rw fine (unfold outcome in rw (kept-when S (D .verdicts i) (λ j m. all-said i j l m)));
+        share = hon .share i l
+      }
+    where
+      fine : refusal (outcomeRules S (D .g i) (D .verdicts i) (hon .lent)) ≡ 0
+      fine =
+          outcome-accepts S (D .g i) (D .verdicts i) (hon .lent)
+          (record {
+            limits = dealing-ok i l .setup .limits;
+            part = part-g′ i l;
+            heard = record { size = hon .heard i l; small = λ j m. omega (arith, all-said i j l m) };
+            room = hon .room
+          })
+
+  done′ : (group : ℕ) → determinesCall S group ≡ yes → Done S group (λ (t : Unit {0}). D)
+  done′ group e = record { determined = e; keepers = λ t i m. keep′ i (m .0); delivered = λ t i j mi mj. hon .arrived i j (mi .0) (mj .0) }
+
+  -- THE ARRAY DEALT. A group that determines has a member, and so the inputs of the dealing are known to be in order
+  module _ (group : ℕ) (e : determinesCall S group ≡ yes) where
+    prime : Prime (S .p)
+    prime = limits-prime S (group-ok S group e .0 .setup .limits)
+
+    holder : 0 < S .n
+    holder = group-ok S group e .0 .setup .limits .holders .0
+
+    inputs : DealOk S secrets random
+    inputs = dealing-ok 0 holder
+
+    -- an entry of F is a field element
+    entry-small : (k b : ℕ) → k < dim S → b < dim S → entry (dim S) F k b < S .p
+    unfolding F dealt
+    entry-small k b hk hb =
+        rw (getD-tab (dim S * dim S) (flat (dim S) (dealtEntry S secrets random)) 0 (k * dim S + b) (digits-lt hk hb), ← flat-at (dim S) (dealtEntry S secrets random) k b hb)
+        (dealt-small S secrets random inputs k b)
+
+    dealt-is : IsArray S (arrayDealt S secrets random)
+    dealt-is =
+        record {
+          count = length-tab (S .l) _;
+          each = λ b h. rw (getD-tab (S .l) (λ b. tab (S .l) (λ k. entry (dim S) (dealt S secrets random) k b)) [] b h)
+            (tab-vec (S .p) (S .l) _ (λ k l. unfold F in entry-small k b (omega arith) (omega arith)))
+        }
+
+    dealt-agrees : Agrees S group D (arrayDealt S secrets random)
+    unfolding F
+    dealt-agrees b h =
+        record {
+          vector = tab (dim S) (λ k. entry (dim S) F k b);
+          ok = tab-vec (S .p) (dim S) _ (λ k l. entry-small k b l (omega arith));
+          begins =
+            tab-is (S .l) _ 0 (take (S .l) (tab (dim S) (λ k. entry (dim S) F k b))) len
+              (λ k l. getD-take (S .l) _ k 0 l ∙ getD-tab (dim S) _ 0 k (omega arith))
+            ∙ sym (getD-tab (S .l) (λ b. tab (S .l) (λ k. entry (dim S) (dealt S secrets random) k b)) [] b h);
+          gives = λ i m.
+            ap (λ z. z % S .p) (dot-tab (dim S) (row S i) (λ k. entry (dim S) F k b))
+            ∙ sym (g-at S F i b (omega arith))
+            ∙ ap (λ g. at g b) (sym (g-is i (m .0)))
+            ∙ sym (share-at S group (λ (t : Unit {0}). D) (done′ group e) tt i m b h)
+        }
+      where
+        len : length (take (S .l) (tab (dim S) (λ k. entry (dim S) F k b))) ≡ S .l
+        len = length-take-le (S .l) (tab (dim S) (λ k. entry (dim S) F k b)) (omega (arith, length-tab (dim S) (λ k. entry (dim S) F k b)))
+
+    array′ : ExactlyOne S group D (arrayDealt S secrets random)
+    array′ = exactly-one S group (prime .big) (group-ok S group e .1) D (arrayDealt S secrets random) dealt-is dealt-agrees
+
+  -- position k of column b is position k of secret vector b
+  vectors′ : (k b : ℕ) → k < S .l → b < S .l → at (column (arrayDealt S secrets random) b) k ≡ entry (S .l) secrets b k
+  unfolding dealt dealtEntry
+  vectors′ k b hk hb =
+      ap (λ c. at c k) (getD-tab (S .l) (λ b. tab (S .l) (λ k. entry (dim S) (dealt S secrets random) k b)) [] b hb)
+      ∙ getD-tab (S .l) (λ k. entry (dim S) (dealt S secrets random) k b) 0 k hk
+      ∙ getD-tab (dim S * dim S) (flat (dim S) (dealtEntry S secrets random)) 0 (k * dim S + b) (digits-lt (omega arith) (omega arith))
+      ∙ sym (flat-at (dim S) (dealtEntry S secrets random) k b (omega arith))
+      ∙ rw (lt-ltb k (S .l) hk, lt-ltb b (S .l) hb) refl
+
+  honest′ : HonestFound S secrets random D
+  honest′ = record { accept = accepted; keep = keep′; done = done′; array = array′; vectors = vectors′ }
+
+  -- SECRETS DEALT COME BACK
+  back′ : (s : ℕ) → determinesCall S s ≡ yes → (b : ℕ) → b < S .l → (out : List ℕ) → length out ≡ S .l
+      → Opens S s (tab (length (members (S .n) (holds s))) (λ a. at (D .shares (at (members (S .n) (holds s)) a)) b)) out (tab (S .l) (λ k. entry (S .l) secrets b k))
+  back′ s e b h out room =
+      let r = found-there .never-refused ts s handed out hand room (λ i m. m) in
+      record { answer = r .answer; buffer = r .buffer ∙ found-there .one-column tt b h ∙ ap (λ A. column A b) same-array ∙ column-is }
+    where
+      all : Unit {0} → Dealing
+      all t = D
+      found-there : Found S s all
+      found-there = found′ S s all (done′ s e)
+      ts : Terms (Unit {0})
+      ts = record { count = 1; constant = λ _. 1; dealing = λ _. tt; column = λ _. b }
+      handed : List ℕ
+      handed = tab (length (members (S .n) (holds s))) (λ a. at (D .shares (at (members (S .n) (holds s)) a)) b)
+      big′ : 1 < S .p
+      big′ = prime s e .big
+      share-small : (i : ℕ) → Member S s i → at (D .shares i) b < S .p
+      share-small i m = rw (share-at S s all (done′ s e) tt i m b h) (part-g′ i (m .0) .small b (omega arith))
+      once : (x : ℕ) → x < S .p → combineCall (S .p) (tab 1 (λ _. 1)) (tab 1 (λ _. x)) ≡ given (x ∷ [])
+      once x l = rw (fine, combine-tab (S .p) 1 (λ _. 1) (λ _. x)) (ap (λ z. given (z ∷ [])) (ap (λ z. z % S .p) (single x) ∙ mod-eq-of-lt l))
+        where
+          single : (x : ℕ) → dot 1 (λ _. 1) (λ _. x) ≡ x
+          single x = unfold dot sum in omega arith
+          one-long : length (tab {A = ℕ} 1 (λ k. 1)) ≡ 1
+          one-long = length-tab {A = ℕ} 1 (λ k. 1)
+          fine : refusal (combineRules (S .p) (tab 1 (λ _. 1)) (tab 1 (λ _. x))) ≡ 0
+          fine =
+              combine-accepts (S .p) (tab 1 (λ _. 1)) (tab 1 (λ _. x))
+              (record {
+                field = group-ok S s e .0 .setup .limits .field;
+                constants = rw (one-long) (tab-vec (S .p) 1 _ (λ k m. big′));
+                shares = rw (one-long) (tab-vec (S .p) 1 _ (λ k m. l));
+                few = omega (arith, one-long)
+              }) (omega (arith, one-long))
+      hand : Handed S s all ts s handed
+      hand =
+          record {
+            limits = record { some-terms = (omega arith, omega arith); columns = λ t l. h; constants = λ t l. big′ };
+            below = group-ok S s e .0 .inside;
+            count = length-tab _ _;
+            by-rule = λ a l t.
+              once (at (D .shares (at (members (S .n) (holds s)) a)) b) (share-small _ (member-at (S .n) (holds s) a l))
+              ∙ ap (λ z. given (z ∷ [])) (sym (getD-tab (length (members (S .n) (holds s))) _ 0 a l));
+            present = unfold determines in every-all (S .l) _ (λ k l.
+              row-grows S (holds s) (λ i. holds s i && holds s i) k big′ (λ i m t. rw t refl)
+              (every-at (S .l) (hasRow S (holds s)) (unfold determines in group-ok S s e .1) k l))
+          }
+      same-array : found-there .array tt ≡ arrayDealt S secrets random
+      same-array =
+          only S s big′ (group-ok S s e .1) D _ _ (found-there .one tt .array) (dealt-is s e) (found-there .one tt .agrees) (dealt-agrees s e)
+      column-is : column (arrayDealt S secrets random) b ≡ tab (S .l) (λ k. entry (S .l) secrets b k)
+      column-is = tab-is (S .l) _ 0 _ (dealt-is s e .each b h .size) (λ k l. vectors′ k b l h)
+
+pub demand3 : Demand3
+demand3 = record { found = found′; honest = honest′; back = back′ }

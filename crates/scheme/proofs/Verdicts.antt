@@ -1,0 +1,53 @@
+-- What a judgement and an outcome say: accept is that every value equals what is due, kept is that every verdict is accept.
+use mathlib.Core.Path.{_≡_, refl, sym, ap, _∙_}
+use mathlib.Core.Bool.{Bool, true, false, not, false≢true}
+use mathlib.Core.List.{List, [], _∷_}
+use Prim.Native.Nat.{ℕ, _≤_, _<_}
+use native.Mathlib.Omega.{arith}
+use lib.Dec.{eqb, ltb}
+use borrow.Author.Tests.{eqb-true, eq-eqb, ltb-false, lt-ltb, le-ltb, not-true, not-false}
+use Rattle.base.specs.Choice.{pick}
+use Rattle.base.specs.Rules.{Answer}
+use Rattle.base.specs.Search.{first}
+use Rattle.base.proofs.Search.{missing-all, first-missing, first-found}
+use Rattle.linear.specs.Dot.{at}
+use Rattle.scheme.specs.Setup.{Setup}
+use Rattle.scheme.specs.Answers.{accepts, rejects, kept, aborted}
+use Rattle.scheme.specs.Dealing.{expected, differs, judge, saidReject, isKept, outcome}
+
+-- an answer whose first value is 1 is the one behind the test
+choose : (b : Bool) (j : ℕ) → pick b (rejects j) accepts ≡ accepts → b ≡ false
+choose true j e = absurd (let z : _≡_ {A = ℕ} 0 1 = ap (λ (a : Answer). at (a .values) 0) e in omega arith)
+choose false j e = refl
+
+pub accept-means : (S : Setup) (h values : List ℕ) → judge S h values ≡ accepts → (j : ℕ) → j < S .n → at values j ≡ expected S h j
+unfolding judge differs
+accept-means S h values e j l =
+    let t = first (differs S h values) (S .n) in
+    let none : S .n ≤ t = ltb-false t (S .n) (choose (ltb t (S .n)) t e) in
+    eqb-true (at values j) (expected S h j) (not-false (eqb (at values j) (expected S h j)) (missing-all (differs S h values) (S .n) none j l))
+
+pub accept-when : (S : Setup) (h values : List ℕ) → ((j : ℕ) → j < S .n → at values j ≡ expected S h j) → judge S h values ≡ accepts
+unfolding judge differs
+accept-when S h values q =
+    let none = first-missing (differs S h values) (S .n) (λ j l. ap not (eq-eqb (at values j) (expected S h j) (q j l))) in
+    rw (none, le-ltb (S .n) (S .n) (omega arith))
+
+pub reject-when : (S : Setup) (h values : List ℕ) (j : ℕ) → j < S .n → differs S h values j ≡ true → ((k : ℕ) → k < j → differs S h values k ≡ false)
+    → judge S h values ≡ rejects j
+unfolding judge
+reject-when S h values j l t below = rw (first-found (differs S h values) (S .n) j l t below, lt-ltb j (S .n) l)
+
+pub kept-means : (S : Setup) (verdicts : List ℕ) → outcome S verdicts ≡ kept → isKept S verdicts ≡ true
+unfolding outcome
+kept-means S verdicts = go (isKept S verdicts)
+  where
+    go : (b : Bool) → pick b kept (aborted (first (saidReject verdicts) (S .n))) ≡ kept → b ≡ true
+    go true e = refl
+    go false e = absurd (let z : _≡_ {A = ℕ} 0 1 = ap (λ (a : Answer). at (a .values) 0) e in omega arith)
+
+pub kept-when : (S : Setup) (verdicts : List ℕ) → ((i : ℕ) → i < S .n → at verdicts i ≡ 1) → isKept S verdicts ≡ true
+unfolding isKept saidReject
+kept-when S verdicts q =
+    let none = first-missing (saidReject verdicts) (S .n) (λ i l. ap not (eq-eqb (at verdicts i) 1 (q i l))) in
+    rw (none, le-ltb (S .n) (S .n) (omega arith))
