@@ -1,0 +1,80 @@
+-- The cases that document 01 marks ● ("The holder program on paper"), on its example setup: the lines of one table, proved together from the
+-- definitions; and the case of the reviewer's condition on the openers.
+use mathlib.Core.Path.{_≡_, refl}
+use mathlib.Core.Bool.{true, false, _&&_}
+use mathlib.Core.List.{List, [], _∷_, _++_, map}
+use mathlib.Core.Option.{Option, none, some}
+use Prim.Native.Nat.{ℕ}
+use Rattle.base.specs.Rules.{Answer}
+use Rattle.base.specs.Sum.{sum, bit, unit}
+use Rattle.base.specs.Search.{every, first, firstFrom, firstOf, firstVec}
+use Rattle.base.specs.Fill.{tab, tabFrom}
+use Rattle.base.specs.Matrix.{allBelow}
+use Rattle.field.specs.Prime.{inverseOf}
+use Rattle.field.specs.Fields.{isField}
+use Rattle.linear.specs.Dot.{dot}
+use Rattle.linear.specs.Polynomial.{point, lagrange, basis, minus}
+use Rattle.scheme.specs.Setup.{Setup}
+use Rattle.scheme.specs.Points.{pointsMatrix}
+use Rattle.scheme.specs.Dealing.{place, dealtEntry, dealt, partG, partH, pairValue, expected}
+use Rattle.scheme.specs.Sets.{holds, members, membersFrom, isRow, findRow, hasRow, isSweep, findSweep, determines}
+use Rattle.scheme.specs.Opening.{gives, opening, combine}
+use Rattle.scheme.specs.Calls.{pointsLeft, dealLeftG, dealLeftH, pairValueCall, openCall, openLeft}
+use Rattle.scheme.proofs.Sets.{orNil}
+
+-- "p 7, ℓ 1, e 1, n 3, points rows (6,2), (5,3), (4,4), F rows (3,1), (5,2)"
+abbrev pub ex : Setup
+ex = record { p = 7; l = 1; e = 1; n = 3; M = 6 ∷ 2 ∷ 5 ∷ 3 ∷ 4 ∷ 4 ∷ [] }
+
+-- F's secret is 3, its lent entries are 1, 5, 2
+abbrev pub g : ℕ → List ℕ
+g i = dealLeftG ex (3 ∷ []) (1 ∷ 5 ∷ 2 ∷ []) i (0 ∷ 0 ∷ []) (0 ∷ 0 ∷ [])
+
+abbrev pub h : ℕ → List ℕ
+h i = dealLeftH ex (3 ∷ []) (1 ∷ 5 ∷ 2 ∷ []) i (0 ∷ 0 ∷ []) (0 ∷ 0 ∷ [])
+
+-- a call's number, then its values; of an opening also the buffer, which holds 0 before
+abbrev pub line : Answer → List ℕ
+line a = a .number ∷ a .values
+
+abbrev pub opens : ℕ → List ℕ → List ℕ
+opens s xs = line (openCall ex s xs (0 ∷ [])) ++ openLeft ex s xs (0 ∷ [])
+
+pub record Case : Type 0 where
+  pub gives : List ℕ
+  pub wanted : List ℕ
+
+infix 20 _is_
+abbrev pub _is_ : List ℕ → List ℕ → Case
+a is b = record { gives = a; wanted = b }
+
+abbrev pub table : List Case
+table =
+    (pointsLeft (record { p = 7; l = 1; e = 1; n = 3; M = 0 ∷ 0 ∷ 0 ∷ 0 ∷ 0 ∷ 0 ∷ [] }) is 6 ∷ 2 ∷ 5 ∷ 3 ∷ 4 ∷ 4 ∷ [])
+    ∷ (g 0 is 0 ∷ 3 ∷ []) ∷ (g 1 is 2 ∷ 4 ∷ []) ∷ (g 2 is 4 ∷ 5 ∷ [])
+    ∷ (h 0 is 6 ∷ 6 ∷ []) ∷ (h 1 is 4 ∷ 3 ∷ []) ∷ (h 2 is 2 ∷ 0 ∷ [])
+    ∷ (line (pairValueCall ex (g 0) 1) is 0 ∷ 2 ∷ []) ∷ (line (pairValueCall ex (g 1) 1) is 0 ∷ 1 ∷ []) ∷ (line (pairValueCall ex (g 2) 1) is 0 ∷ 0 ∷ [])
+    ∷ (opens 5 (0 ∷ 4 ∷ []) is 0 ∷ 3 ∷ [])
+    ∷ (orNil (findRow ex (holds 5) 0) is 2 ∷ 6 ∷ [])
+    ∷ (opens 7 (0 ∷ 2 ∷ 4 ∷ []) is 0 ∷ 3 ∷ [])
+    ∷ (opens 7 (0 ∷ 2 ∷ 5 ∷ []) is 7 ∷ 0 ∷ [])
+    ∷ (opens 1 (0 ∷ []) is 6 ∷ 0 ∷ 0 ∷ [])
+    ∷ (orNil (findSweep ex (holds 1) 0) is 1 ∷ 4 ∷ [])
+    ∷ (opens 0 [] is 6 ∷ 0 ∷ 0 ∷ [])
+    ∷ (opens 7 (0 ∷ 4 ∷ 1 ∷ []) is 0 ∷ 6 ∷ [])
+    ∷ []
+
+pub cases : map (λ (c : Case). c .gives) table ≡ map (λ (c : Case). c .wanted) table
+unfolding sum bit unit every first firstFrom firstOf firstVec tab tabFrom allBelow inverseOf isField dot point lagrange basis minus pointsMatrix place dealtEntry dealt partG partH pairValue expected members membersFrom isRow findRow hasRow isSweep findSweep determines gives opening combine
+cases = refl
+
+-- Why demand 3 asks that the group's members among the openers determine the secrets (Demand.antt, Handed): holders 0 and 1 are a group that
+-- determines them and kept the shares 0 and 2 of the secret 3; holder 2 stands outside and hands in 5 for its 4. Holders 1 and 2, of whom only holder 1
+-- is in the group, open to 0 and not to 3.
+pub liar-opens : openLeft ex 6 (2 ∷ 5 ∷ []) (1 ∷ []) ≡ 0 ∷ []
+unfolding sum bit unit every first firstFrom firstOf firstVec tab tabFrom allBelow isField dot members membersFrom isRow findRow hasRow gives opening
+liar-opens = refl
+
+pub alone-too-few : determines ex (λ i. holds 6 i && holds 3 i) ≡ false
+unfolding sum bit unit every firstOf firstVec dot members membersFrom isRow findRow hasRow determines
+alone-too-few = refl

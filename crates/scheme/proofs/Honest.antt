@@ -1,0 +1,80 @@
+-- Honest runs exist: whatever setup, secrets and random entries are within the limits, there is the dealing in which all follow the rules and
+-- every message arrives. So demand 3's hypotheses are met by every group that determines the secrets.
+use mathlib.Core.Path.{_≡_, refl, sym, ap, _∙_}
+use mathlib.Core.List.{List, [], _∷_}
+use Prim.Native.Nat.{ℕ, _+_, _-_, _*_, _%_, _<_}
+use native.Mathlib.Nat.{mod-lt}
+use native.Mathlib.Omega.{arith}
+use borrow.Author.Tests.{lt-leb}
+use lib.ListN.{length, replicate, length-replicate}
+use Rattle.base.specs.Rules.{Answer, refusal, given}
+use Rattle.base.specs.Search.{Vec}
+use Rattle.base.specs.Fill.{tab}
+use Rattle.base.proofs.Rules.{none-applies}
+use Rattle.base.proofs.Fill.{length-tab, getD-tab, tab-vec}
+use Rattle.linear.specs.Dot.{at}
+use Rattle.scheme.specs.Setup.{Setup, dim, IsSetup}
+use Rattle.scheme.specs.Answers.{yes}
+use Rattle.scheme.specs.Dealing.{partG, partH, pairValue, dealt}
+use Rattle.scheme.specs.Calls.{dealRules, dealLeftG, dealLeftH, pairValueRules, judgeCall, outcomeLeft, determinesCall}
+use Rattle.scheme.specs.Demand.{Dealing, Done, Honest}
+use Rattle.scheme.proofs.Calls.{limits-clear, limits-pos, size-clear, elements-clear, DealOk, pairValue-accepts}
+use Rattle.scheme.proofs.Demand.{demand3}
+
+module _ (S : Setup) (secrets random : List ℕ) (ok : DealOk S secrets random) where
+  zeros : List ℕ
+  zeros = replicate (dim S) 0
+
+  g : ℕ → List ℕ
+  g i = dealLeftG S secrets random i zeros zeros
+
+  h : ℕ → List ℕ
+  h i = dealLeftH S secrets random i zeros zeros
+
+  values : ℕ → List ℕ
+  values i = tab (S .n) (λ j. pairValue S (g j) i)
+
+  verdicts : ℕ → List ℕ
+  verdicts i = tab (S .n) (λ j. at (judgeCall S (h j) (values j) .values) 0)
+
+  pub run : Dealing
+  run =
+      record {
+        g = g; h = h; values = values; verdicts = verdicts;
+        shares = λ i. outcomeLeft S (g i) (verdicts i) (replicate (S .l) 0)
+      }
+
+  not-declined : (i : ℕ) → i < S .n → refusal (dealRules S secrets random i zeros zeros) ≡ 0
+  unfolding zeros
+  not-declined i l =
+      let L = limits-clear S (ok .setup .limits) in
+      let z = length-replicate {A = ℕ} (dim S) 0 in
+      none-applies (dealRules S secrets random i zeros zeros)
+      (L .field, (L .secret, (L .random, (L .holders, (size-clear (S .M) _ (ok .setup .matrix .size), (size-clear secrets _ (ok .vectors .size),
+      (size-clear random _ (ok .entries .size), (size-clear zeros _ z, (size-clear zeros _ z, (elements-clear (S .p) _ (S .M) (ok .setup .matrix),
+      (elements-clear (S .p) _ secrets (ok .vectors), (elements-clear (S .p) _ random (ok .entries), (lt-leb (S .n) i l, tt)))))))))))))
+
+  part-ok : (i : ℕ) → i < S .n → Vec (S .p) (dim S) (g i)
+  unfolding g
+  part-ok i l = rw (not-declined i l) (unfold partG in tab-vec (S .p) (dim S) _ (λ k m. mod-lt _ (limits-pos S (ok .setup .limits))))
+
+  pub run-honest : Honest S secrets random run
+  unfolding run
+  run-honest =
+      record {
+        lentG = zeros; lentH = zeros; lent = replicate (S .l) 0;
+        room = length-replicate {A = ℕ} (S .l) 0;
+        dealing = λ i l. rw (not-declined i l) refl;
+        part-g = λ i l. unfold g in refl;
+        part-h = λ i l. unfold h in refl;
+        received = λ i l. unfold values in length-tab (S .n) _;
+        arrived = λ i j l m.
+          rw (pairValue-accepts S (g j) i (record { setup = ok .setup; part = part-ok j m; to = l }))
+          (ap (λ x. given (x ∷ [])) (unfold values in sym (getD-tab (S .n) (λ j. pairValue S (g j) i) 0 j m)));
+        heard = λ i l. unfold verdicts in length-tab (S .n) _;
+        said = λ i j l m. unfold verdicts in getD-tab (S .n) (λ j. at (judgeCall S (h j) (values j) .values) 0) 0 j m;
+        share = λ i l. refl
+      }
+
+  pub run-done : (group : ℕ) → determinesCall S group ≡ yes → Done S group (λ (t : Unit {0}). run)
+  run-done group e = demand3 .honest S secrets random run run-honest .done group e
