@@ -27,6 +27,15 @@ pub not-refused : (r : ℕ) (a : Answer) (vs : List ℕ) → answerBy r a ≡ gi
 not-refused zero a vs e = (refl, e)
 not-refused (suc r) a vs e = absurd (let z : _≡_ {A = ℕ} (suc r) 0 = ap (λ (b : Answer). b .number) e in omega arith)
 
+-- a call that was refused
+pub declined : (r : ℕ) (a : Answer) → (r ≡ 0 → ⊥) → refused r ≡ answerBy r a
+declined zero a n = absurd (n refl)
+declined (suc r) a n = refl
+
+pub unchanged : (r : ℕ) (new old : List ℕ) → (r ≡ 0 → ⊥) → old ≡ leftBy r new old
+unchanged zero new old n = absurd (n refl)
+unchanged (suc r) new old n = refl
+
 -- the tests of refusals 2, 3 and 4, and the facts
 pub inside : (low high x : ℕ) → outside low high x ≡ false → (low ≤ x) × (x ≤ high)
 inside low high x = go (ltb x low) refl (ltb high x) refl
@@ -71,7 +80,7 @@ limits-clear S L =
       field = ap not (L .field);
       secret = inside-clear 1 8 (S .l) (L .secret .0) (L .secret .1);
       random = inside-clear 1 8 (S .e) (L .random .0) (L .random .1);
-      holders = inside-clear 1 32 (S .n) (L .holders .0) (L .holders .1)
+      holders = inside-clear 1 32 (S .n) (L .holders .0) (L .holders .1);
     }
 
 pub limits-prime : (S : Setup) → Limits S → Prime (S .p)
@@ -99,7 +108,7 @@ points-ok S e =
     record {
       limits = limits-of S (c .0) (c .1 .0) (c .1 .1 .0) (c .1 .1 .1 .0);
       room = size-is (S .M) _ (r .0);
-      fits = ltb-false (S .p) (dim S + S .n) (r .1 .0)
+      fits = ltb-false (S .p) (dim S + S .n) (r .1 .0);
     }
 
 -- DEAL AND DEAL TO ALL
@@ -114,12 +123,16 @@ deal-ok S secrets random i g h e =
     let c = clear (dealRules S secrets random i g h) tt e in
     let L : Limits S = limits-of S (c .0) (c .1 .0) (c .1 .1 .0) (c .1 .1 .1 .0) in
     let r = c .1 .1 .1 .1 in
-    let s = r .1 .1 .1 .1 .1 in
-    (record {
-      setup = record { limits = L; matrix = vec-of (S .p) _ (S .M) (limits-pos S L) (r .0) (s .0) };
-      vectors = vec-of (S .p) _ secrets (limits-pos S L) (r .1 .0) (s .1 .0);
-      entries = vec-of (S .p) _ random (limits-pos S L) (r .1 .1 .0) (s .1 .1 .0)
-    }, size-is g _ (r .1 .1 .1 .0), size-is h _ (r .1 .1 .1 .1 .0), leb-false (S .n) i (s .1 .1 .1 .0))
+    let s = r .1 .1 .1 .1 .1 in (
+      record {
+        setup = record { limits = L; matrix = vec-of (S .p) _ (S .M) (limits-pos S L) (r .0) (s .0) };
+        vectors = vec-of (S .p) _ secrets (limits-pos S L) (r .1 .0) (s .1 .0);
+        entries = vec-of (S .p) _ random (limits-pos S L) (r .1 .1 .0) (s .1 .1 .0);
+      },
+      size-is g _ (r .1 .1 .1 .0),
+      size-is h _ (r .1 .1 .1 .1 .0),
+      leb-false (S .n) i (s .1 .1 .1 .0),
+    )
 
 pub dealAll-ok : (S : Setup) (secrets random gs hs : List ℕ) → refusal (dealAllRules S secrets random gs hs) ≡ 0
     → DealOk S secrets random × (length gs ≡ S .n * dim S) × (length hs ≡ S .n * dim S)
@@ -127,12 +140,15 @@ dealAll-ok S secrets random gs hs e =
     let c = clear (dealAllRules S secrets random gs hs) tt e in
     let L : Limits S = limits-of S (c .0) (c .1 .0) (c .1 .1 .0) (c .1 .1 .1 .0) in
     let r = c .1 .1 .1 .1 in
-    let s = r .1 .1 .1 .1 .1 in
-    (record {
-      setup = record { limits = L; matrix = vec-of (S .p) _ (S .M) (limits-pos S L) (r .0) (s .0) };
-      vectors = vec-of (S .p) _ secrets (limits-pos S L) (r .1 .0) (s .1 .0);
-      entries = vec-of (S .p) _ random (limits-pos S L) (r .1 .1 .0) (s .1 .1 .0)
-    }, size-is gs _ (r .1 .1 .1 .0), size-is hs _ (r .1 .1 .1 .1 .0))
+    let s = r .1 .1 .1 .1 .1 in (
+      record {
+        setup = record { limits = L; matrix = vec-of (S .p) _ (S .M) (limits-pos S L) (r .0) (s .0) };
+        vectors = vec-of (S .p) _ secrets (limits-pos S L) (r .1 .0) (s .1 .0);
+        entries = vec-of (S .p) _ random (limits-pos S L) (r .1 .1 .0) (s .1 .1 .0);
+      },
+      size-is gs _ (r .1 .1 .1 .0),
+      size-is hs _ (r .1 .1 .1 .1 .0),
+    )
 
 -- PAIR VALUE
 pub record PairValueOk (S : Setup) (g : List ℕ) (i : ℕ) : Type 0 where
@@ -148,15 +164,31 @@ pairValue-ok S g i e =
     record {
       setup = record { limits = L; matrix = vec-of (S .p) _ (S .M) (limits-pos S L) (r .0) (r .1 .1 .0) };
       part = vec-of (S .p) _ g (limits-pos S L) (r .1 .0) (r .1 .1 .1 .0);
-      to = leb-false (S .n) i (r .1 .1 .1 .1 .0)
+      to = leb-false (S .n) i (r .1 .1 .1 .1 .0);
     }
 
 pub pairValue-accepts : (S : Setup) (g : List ℕ) (i : ℕ) → PairValueOk S g i → refusal (pairValueRules S g i) ≡ 0
 pairValue-accepts S g i k =
     let L = limits-clear S (k .setup .limits) in
-    none-applies (pairValueRules S g i)
-    (L .field, (L .secret, (L .random, (L .holders, (size-clear (S .M) _ (k .setup .matrix .size), (size-clear g _ (k .part .size),
-    (elements-clear (S .p) _ (S .M) (k .setup .matrix), (elements-clear (S .p) _ g (k .part), (lt-leb (S .n) i (k .to), tt)))))))))
+    none-applies (pairValueRules S g i) (
+      L .field,
+      (
+        L .secret,
+        (
+          L .random,
+          (
+            L .holders,
+            (
+              size-clear (S .M) _ (k .setup .matrix .size),
+              (
+                size-clear g _ (k .part .size),
+                (elements-clear (S .p) _ (S .M) (k .setup .matrix), (elements-clear (S .p) _ g (k .part), (lt-leb (S .n) i (k .to), tt))),
+              ),
+            ),
+          ),
+        ),
+      ),
+    )
 
 -- JUDGE
 pub record JudgeOk (S : Setup) (h values : List ℕ) : Type 0 where
@@ -172,16 +204,40 @@ judge-ok S h values e =
     record {
       setup = record { limits = L; matrix = vec-of (S .p) _ (S .M) (limits-pos S L) (r .0) (r .1 .1 .1 .0) };
       part = vec-of (S .p) _ h (limits-pos S L) (r .1 .0) (r .1 .1 .1 .1 .0);
-      received = vec-of (S .p) _ values (limits-pos S L) (r .1 .1 .0) (r .1 .1 .1 .1 .1 .0)
+      received = vec-of (S .p) _ values (limits-pos S L) (r .1 .1 .0) (r .1 .1 .1 .1 .1 .0);
     }
 
 pub judge-accepts : (S : Setup) (h values : List ℕ) → JudgeOk S h values → refusal (judgeRules S h values) ≡ 0
 judge-accepts S h values k =
     let L = limits-clear S (k .setup .limits) in
-    none-applies (judgeRules S h values)
-    (L .field, (L .secret, (L .random, (L .holders, (size-clear (S .M) _ (k .setup .matrix .size), (size-clear h _ (k .part .size),
-    (size-clear values _ (k .received .size), (elements-clear (S .p) _ (S .M) (k .setup .matrix), (elements-clear (S .p) _ h (k .part),
-    (elements-clear (S .p) _ values (k .received), tt))))))))))
+    none-applies (judgeRules S h values) (
+      L .field,
+      (
+        L .secret,
+        (
+          L .random,
+          (
+            L .holders,
+            (
+              size-clear (S .M) _ (k .setup .matrix .size),
+              (
+                size-clear h _ (k .part .size),
+                (
+                  size-clear values _ (k .received .size),
+                  (
+                    elements-clear (S .p) _ (S .M) (k .setup .matrix),
+                    (
+                      elements-clear (S .p) _ h (k .part),
+                      (elements-clear (S .p) _ values (k .received), tt),
+                    ),
+                  ),
+                ),
+              ),
+            ),
+          ),
+        ),
+      ),
+    )
 
 -- OUTCOME
 pub record OutcomeOk (S : Setup) (g verdicts out : List ℕ) : Type 0 where
@@ -199,15 +255,31 @@ outcome-ok S g verdicts out e =
       limits = L;
       part = vec-of (S .p) _ g (limits-pos S L) (r .0) (r .1 .1 .1 .0);
       heard = vec-of 2 _ verdicts (omega arith) (r .1 .0) (r .1 .1 .1 .1 .0);
-      room = size-is out _ (r .1 .1 .0)
+      room = size-is out _ (r .1 .1 .0);
     }
 
 pub outcome-accepts : (S : Setup) (g verdicts out : List ℕ) → OutcomeOk S g verdicts out → refusal (outcomeRules S g verdicts out) ≡ 0
 outcome-accepts S g verdicts out k =
     let L = limits-clear S (k .limits) in
-    none-applies (outcomeRules S g verdicts out)
-    (L .field, (L .secret, (L .random, (L .holders, (size-clear g _ (k .part .size), (size-clear verdicts _ (k .heard .size),
-    (size-clear out _ (k .room), (elements-clear (S .p) _ g (k .part), (elements-clear 2 _ verdicts (k .heard), tt)))))))))
+    none-applies (outcomeRules S g verdicts out) (
+      L .field,
+      (
+        L .secret,
+        (
+          L .random,
+          (
+            L .holders,
+            (
+              size-clear g _ (k .part .size),
+              (
+                size-clear verdicts _ (k .heard .size),
+                (size-clear out _ (k .room), (elements-clear (S .p) _ g (k .part), (elements-clear 2 _ verdicts (k .heard), tt))),
+              ),
+            ),
+          ),
+        ),
+      ),
+    )
 
 -- REHEARSE
 pub record RehearseOk (S : Setup) (gs hs : List ℕ) : Type 0 where
@@ -223,7 +295,7 @@ rehearse-ok S gs hs e =
     record {
       setup = record { limits = L; matrix = vec-of (S .p) _ (S .M) (limits-pos S L) (r .0) (r .1 .1 .1 .0) };
       rows = vec-of (S .p) _ gs (limits-pos S L) (r .1 .0) (r .1 .1 .1 .1 .0);
-      columns = vec-of (S .p) _ hs (limits-pos S L) (r .1 .1 .0) (r .1 .1 .1 .1 .1 .0)
+      columns = vec-of (S .p) _ hs (limits-pos S L) (r .1 .1 .0) (r .1 .1 .1 .1 .1 .0);
     }
 
 -- SETS
@@ -238,25 +310,44 @@ set-ok S s e =
     let r = c .1 .1 .1 .1 in
     record {
       setup = record { limits = L; matrix = vec-of (S .p) _ (S .M) (limits-pos S L) (r .0) (r .1 .0) };
-      inside = leb-false (2 ^ S .n) s (r .1 .1 .0)
+      inside = leb-false (2 ^ S .n) s (r .1 .1 .0);
     }
 
 pub set-accepts : (S : Setup) (s : ℕ) → SetOk S s → refusal (setRules S s) ≡ 0
 set-accepts S s k =
     let L = limits-clear S (k .setup .limits) in
-    none-applies (setRules S s)
-    (L .field, (L .secret, (L .random, (L .holders, (size-clear (S .M) _ (k .setup .matrix .size), (elements-clear (S .p) _ (S .M) (k .setup .matrix),
-    (lt-leb (2 ^ S .n) s (k .inside), tt)))))))
+    none-applies (setRules S s) (
+      L .field,
+      (
+        L .secret,
+        (
+          L .random,
+          (
+            L .holders,
+            (
+              size-clear (S .M) _ (k .setup .matrix .size),
+              (
+                elements-clear (S .p) _ (S .M) (k .setup .matrix),
+                (lt-leb (2 ^ S .n) s (k .inside), tt),
+              ),
+            ),
+          ),
+        ),
+      ),
+    )
 
 pub judgeSet-ok : (S : Setup) (s q : ℕ) (out : List ℕ) → refusal (judgeSetRules S s q out) ≡ 0 → SetOk S s × (length out ≡ 32) × (q < S .l)
 judgeSet-ok S s q out e =
     let c = clear (judgeSetRules S s q out) tt e in
     let L : Limits S = limits-of S (c .0) (c .1 .0) (c .1 .1 .0) (c .1 .1 .1 .0) in
-    let r = c .1 .1 .1 .1 in
-    (record {
-      setup = record { limits = L; matrix = vec-of (S .p) _ (S .M) (limits-pos S L) (r .0) (r .1 .1 .0) };
-      inside = leb-false (2 ^ S .n) s (r .1 .1 .1 .0)
-    }, size-is out 32 (r .1 .0), leb-false (S .l) q (r .1 .1 .1 .1 .0))
+    let r = c .1 .1 .1 .1 in (
+      record {
+        setup = record { limits = L; matrix = vec-of (S .p) _ (S .M) (limits-pos S L) (r .0) (r .1 .1 .0) };
+        inside = leb-false (2 ^ S .n) s (r .1 .1 .1 .0);
+      },
+      size-is out 32 (r .1 .0),
+      leb-false (S .l) q (r .1 .1 .1 .1 .0),
+    )
 
 -- OPEN
 pub record OpenOk (S : Setup) (s : ℕ) (xs out : List ℕ) : Type 0 where
@@ -272,10 +363,10 @@ open-ok S s xs out e =
     record {
       set = record {
         setup = record { limits = L; matrix = vec-of (S .p) _ (S .M) (limits-pos S L) (r .0) (r .1 .1 .1 .0) };
-        inside = leb-false (2 ^ S .n) s (r .1 .1 .1 .1 .1 .0)
+        inside = leb-false (2 ^ S .n) s (r .1 .1 .1 .1 .1 .0);
       };
       shares = vec-of (S .p) _ xs (limits-pos S L) (r .1 .0) (r .1 .1 .1 .1 .0);
-      room = size-is out _ (r .1 .1 .0)
+      room = size-is out _ (r .1 .1 .0);
     }
 
 -- all but the shares' elements in order: the refusal is 4 exactly where some share is no field element
@@ -284,9 +375,25 @@ pub open-by-shares : (S : Setup) (s : ℕ) (xs out : List ℕ) → SetOk S s →
 open-by-shares S s xs out k a b =
     let L = limits-clear S (k .setup .limits) in
     refusal-after (limits S ++ size (S .M) (S .n * dim S) ∷ size xs (length (members 32 (holds s))) ∷ size out (S .l) ∷ elements (S .p) (S .M) ∷ [])
-    (elements (S .p) xs ∷ (5 when beyond (S .n) s) ∷ [])
-    (L .field, (L .secret, (L .random, (L .holders, (size-clear (S .M) _ (k .setup .matrix .size), (size-clear xs _ a,
-    (size-clear out _ b, (elements-clear (S .p) _ (S .M) (k .setup .matrix), tt))))))))
+    (elements (S .p) xs ∷ (5 when beyond (S .n) s) ∷ []) (
+      L .field,
+      (
+        L .secret,
+        (
+          L .random,
+          (
+            L .holders,
+            (
+              size-clear (S .M) _ (k .setup .matrix .size),
+              (
+                size-clear xs _ a,
+                (size-clear out _ b, (elements-clear (S .p) _ (S .M) (k .setup .matrix), tt)),
+              ),
+            ),
+          ),
+        ),
+      ),
+    )
     ∙ rw (lt-leb (2 ^ S .n) s (k .inside)) (last (allBelow (S .p) xs))
   where
     last : (b : Bool) → refusal ((4 when not b) ∷ (5 when false) ∷ []) ≡ pick b 0 4
@@ -309,11 +416,21 @@ combine-ok p cs xs e =
       field = f;
       constants = vec-of p _ cs pos (size-clear cs (length cs) refl) (c .1 .1 .1 .0);
       shares = vec-of p _ xs pos (c .1 .0) (c .1 .1 .1 .1 .0);
-      few = ltb-false 64 (length cs) (c .1 .1 .0)
+      few = ltb-false 64 (length cs) (c .1 .1 .0);
     }
 
 pub combine-accepts : (p : ℕ) (cs xs : List ℕ) → CombineOk p cs xs → 0 < length cs → refusal (combineRules p cs xs) ≡ 0
 combine-accepts p cs xs k some =
-    none-applies (combineRules p cs xs)
-    (ap not (k .field), (size-clear xs _ (k .shares .size), (le-ltb 64 (length cs) (k .few), (elements-clear p _ cs (k .constants),
-    (elements-clear p _ xs (k .shares), (rw (ne-eqb (length cs) 0 (λ z. omega arith)) refl, tt))))))
+    none-applies (combineRules p cs xs) (
+      ap not (k .field),
+      (
+        size-clear xs _ (k .shares .size),
+        (
+          le-ltb 64 (length cs) (k .few),
+          (
+            elements-clear p _ cs (k .constants),
+            (elements-clear p _ xs (k .shares), (rw (ne-eqb (length cs) 0 (λ z. omega arith)) refl, tt)),
+          ),
+        ),
+      ),
+    )

@@ -3,7 +3,7 @@
 use mathlib.Core.Path.{_≡_, refl}
 use mathlib.Core.Bool.{true, false, _&&_}
 use mathlib.Core.List.{List, [], _∷_, _++_, map}
-use mathlib.Core.Option.{Option, none, some}
+use mathlib.Core.Option.{Option·getD}
 use Prim.Native.Nat.{ℕ}
 use Rattle.base.specs.Rules.{Answer}
 use Rattle.base.specs.Sum.{sum, bit, unit}
@@ -20,7 +20,6 @@ use Rattle.scheme.specs.Dealing.{place, dealtEntry, dealt, partG, partH,
 use Rattle.scheme.specs.Sets.{holds, members, membersFrom, isRow, findRow, hasRow, isSweep, findSweep, determines}
 use Rattle.scheme.specs.Opening.{gives, opening, combine}
 use Rattle.scheme.specs.Calls.{pointsLeft, dealLeftG, dealLeftH, pairValueCall, openCall, openLeft}
-use Rattle.scheme.proofs.Sets.{orNil}
 
 -- "p 7, ℓ 1, e 1, n 3, points rows (6,2), (5,3), (4,4), F rows (3,1), (5,2)"
 abbrev pub ex : Setup
@@ -55,11 +54,11 @@ table =
     ∷ (h 0 is 6 ∷ 6 ∷ []) ∷ (h 1 is 4 ∷ 3 ∷ []) ∷ (h 2 is 2 ∷ 0 ∷ [])
     ∷ (line (pairValueCall ex (g 0) 1) is 0 ∷ 2 ∷ []) ∷ (line (pairValueCall ex (g 1) 1) is 0 ∷ 1 ∷ []) ∷ (line (pairValueCall ex (g 2) 1) is 0 ∷ 0 ∷ [])
     ∷ (opens 5 (0 ∷ 4 ∷ []) is 0 ∷ 3 ∷ [])
-    ∷ (orNil (findRow ex (holds 5) 0) is 2 ∷ 6 ∷ [])
+    ∷ (Option·getD (findRow ex (holds 5) 0) [] is 2 ∷ 6 ∷ [])
     ∷ (opens 7 (0 ∷ 2 ∷ 4 ∷ []) is 0 ∷ 3 ∷ [])
     ∷ (opens 7 (0 ∷ 2 ∷ 5 ∷ []) is 7 ∷ 0 ∷ [])
     ∷ (opens 1 (0 ∷ []) is 6 ∷ 0 ∷ 0 ∷ [])
-    ∷ (orNil (findSweep ex (holds 1) 0) is 1 ∷ 4 ∷ [])
+    ∷ (Option·getD (findSweep ex (holds 1) 0) [] is 1 ∷ 4 ∷ [])
     ∷ (opens 0 [] is 6 ∷ 0 ∷ 0 ∷ [])
     ∷ (opens 7 (0 ∷ 4 ∷ 1 ∷ []) is 0 ∷ 6 ∷ [])
     ∷ []

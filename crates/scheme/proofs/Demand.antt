@@ -37,7 +37,8 @@ use Rattle.scheme.specs.Demand.{Dealing, Member, Keeps, Done, Terms, InL
 use Rattle.scheme.proofs.Calls.{not-refused, limits-prime, limits-pos, set-ok, SetOk, judge-ok, JudgeOk, judge-accepts, outcome-ok, OutcomeOk, outcome-accepts, pairValue-ok, PairValueOk, pairValue-accepts, open-by-shares, CombineOk, combine-accepts, DealOk, deal-ok, below-vec}
 use Rattle.scheme.proofs.Verdicts.{accept-means, accept-when, kept-means, kept-when}
 use Rattle.scheme.proofs.Members.{member-at, place-of, members-wide}
-use Rattle.scheme.proofs.Sets.{theRow, theRow-is, row-grows, same-secrets}
+use Rattle.scheme.proofs.Sets.{theRow, theRow-is, same-secrets}
+use Rattle.scheme.proofs.Grows.{row-grows}
 
 -- PRODUCTS WITH TABLES
 dot-tab : (d : ℕ) (u f : ℕ → ℕ) → dot d u (at (tab d f)) ≡ dot d u f
@@ -72,16 +73,16 @@ group-ok S group e =
     (set-ok S group (r .0), decided (determines S (holds group)) (r .1))
 
 -- EXACTLY ONE ARRAY
-module _ (S : Setup) (group : ℕ) (big : 1 < S .p) (det : determines S (holds group) ≡ true) (D : Dealing) where
+module _ (S : Setup) (group : ℕ) (det : determines S (holds group) ≡ true) (D : Dealing) where
   -- two arrays that agree at column b have the same column b
   same-column : (A B : Array) (b : ℕ) → AgreesAt S group D A b → AgreesAt S group D B b → column A b ≡ column B b
   same-column A B b x y =
       sym (x .begins)
       ∙ takes (S .l) (x .vector) (y .vector) (omega (arith, x .ok .size)) (omega (arith, y .ok .size))
-        (λ k h.
-          sym (mod-eq-of-lt (x .ok .small k (omega arith)))
-          ∙ same-secrets S (holds group) big det (at (x .vector)) (at (y .vector)) (λ i l t. x .gives i (l, t) ∙ sym (y .gives i (l, t))) k h
-          ∙ mod-eq-of-lt (y .ok .small k (omega arith)))
+      (λ k h.
+      sym (mod-eq-of-lt (x .ok .small k (omega arith)))
+      ∙ same-secrets S (holds group) det (at (x .vector)) (at (y .vector)) (λ i l t. x .gives i (l, t) ∙ sym (y .gives i (l, t))) k h
+      ∙ mod-eq-of-lt (y .ok .small k (omega arith)))
       ∙ y .begins
 
   only : (A B : Array) → IsArray S A → IsArray S B → Agrees S group D A → Agrees S group D B → A ≡ B
@@ -96,13 +97,14 @@ module _ (S : Setup) (group : ℕ) (big : 1 < S .p) (det : determines S (holds g
         where
           wrong : ℕ → Bool
           wrong b = not (every (S .l) (λ k. eqb (at (column B b) k) (at (column A b) k)))
+
           go : (r : ℕ) → First wrong (S .l) r → (b : ℕ) × (b < S .l) × (AgreesAt S group D B b → ⊥)
           go r (missing e h) =
               absurd (ne (ext-getD [] B A (isB .count ∙ sym (isA .count))
               (λ b m.
-                let l : b < S .l = omega (arith, isB .count) in
-                ext-getD 0 (column B b) (column A b) (isB .each b l .size ∙ sym (isA .each b l .size))
-                (λ k o. eqb-true _ _ (every-at (S .l) _ (not-false _ (h b l)) k (omega (arith, isB .each b l .size)))))))
+              let l : b < S .l = omega (arith, isB .count) in
+              ext-getD 0 (column B b) (column A b) (isB .each b l .size ∙ sym (isA .each b l .size))
+              (λ k o. eqb-true _ _ (every-at (S .l) _ (not-false _ (h b l)) k (omega (arith, isB .each b l .size)))))))
           go r (found l e h) =
               (r, l, λ ag. false≢true (sym (not-true _ e) ∙ every-all (S .l) _ (λ k m. eq-eqb _ _ (ap (λ c. at c k) (same-column B A r ag (agA r l))))))
 
@@ -154,19 +156,19 @@ module _ (S : Setup) (group : ℕ) {I : Type 0} (D : I → Dealing) (done : Done
       let H : ℕ → ℕ → ℕ = λ a. at (D t .h (at ms a)) in
       let g = at (D t .g j) in
       dot (dim S) (row S j) (behind t b) % S .p
-        ≡⟨ ap (λ z. z % S .p) (dot-comm (dim S) (row S j) (behind t b) ∙ sym (dot-assoc (length ms) (dim S) r (row S j) H)) ⟩
+      ≡⟨ ap (λ z. z % S .p) (dot-comm (dim S) (row S j) (behind t b) ∙ sym (dot-assoc (length ms) (dim S) r (row S j) H)) ⟩
       dot (length ms) r (λ a. dot (dim S) (H a) (row S j)) % S .p
-        ≡⟨ dot-mod-right (S .p) (length ms) r _ _ (λ a o.
-          let mi : Member S group (at ms a) = member-at (S .n) (holds group) a o in
-          ap (λ z. z % S .p) (dot-comm (dim S) (H a) (row S j))
-          ∙ sym (judged t (at ms a) mi j (mj .0)) ∙ sent t (at ms a) j mi mj
-          ∙ ap (λ z. z % S .p) (dot-comm (dim S) g (row S (at ms a)))) ⟩
+      ≡⟨ dot-mod-right (S .p) (length ms) r _ _ (λ a o.
+      let mi : Member S group (at ms a) = member-at (S .n) (holds group) a o in
+      ap (λ z. z % S .p) (dot-comm (dim S) (H a) (row S j))
+      ∙ sym (judged t (at ms a) mi j (mj .0)) ∙ sent t (at ms a) j mi mj
+      ∙ ap (λ z. z % S .p) (dot-comm (dim S) g (row S (at ms a)))) ⟩
       dot (length ms) r (λ a. dot (dim S) (rowAt S ms a) g) % S .p
-        ≡⟨ row-reads (S .p) (length ms) (dim S) (rowAt S ms) b r (omega arith) (theRow-is S (holds group) b big (every-at (S .l) (hasRow S (holds group)) det b l)) g ⟩
+      ≡⟨ row-reads (S .p) (length ms) (dim S) (rowAt S ms) b r (omega arith) (theRow-is S (holds group) b (every-at (S .l) (hasRow S (holds group)) det b l)) g ⟩
       g b % S .p
-        ≡⟨ mod-eq-of-lt (part-g t j mj .small b (omega arith)) ⟩
+      ≡⟨ mod-eq-of-lt (part-g t j mj .small b (omega arith)) ⟩
       g b
-        ≡⟨ sym (share-at t j mj b l) ⟩
+      ≡⟨ sym (share-at t j mj b l) ⟩
       at (D t .shares j) b ∎
 
   vectorOf : I → ℕ → List ℕ
@@ -188,10 +190,10 @@ module _ (S : Setup) (group : ℕ) {I : Type 0} (D : I → Dealing) (done : Done
       record {
         count = unfold arrayOf in length-tab (S .l) _;
         each = λ b h. rw (array-column t b h)
-          (record {
-            size = length-take-le (S .l) (vectorOf t b) (omega (arith, vector-ok t b .size));
-            small = λ k l. rw (getD-take (S .l) (vectorOf t b) k 0 l) (vector-ok t b .small k (omega arith))
-          })
+            (record {
+              size = length-take-le (S .l) (vectorOf t b) (omega (arith, vector-ok t b .size));
+              small = λ k l. rw (getD-take (S .l) (vectorOf t b) k 0 l) (vector-ok t b .small k (omega arith));
+            });
       }
 
   array-agrees : (t : I) → Agrees S group (D t) (arrayOf t)
@@ -200,7 +202,7 @@ module _ (S : Setup) (group : ℕ) {I : Type 0} (D : I → Dealing) (done : Done
         vector = vectorOf t b;
         ok = vector-ok t b;
         begins = sym (array-column t b h);
-        gives = λ i m. unfold vectorOf in dot-reduced (S .p) (dim S) (row S i) (behind t b) ∙ behind-gives t b h i m
+        gives = λ i m. unfold vectorOf in dot-reduced (S .p) (dim S) (row S i) (behind t b) ∙ behind-gives t b h i m;
       }
 
   -- position k of column b, before and after reduction
@@ -226,9 +228,9 @@ module _ (S : Setup) (group : ℕ) {I : Type 0} (D : I → Dealing) (done : Done
     whole-gives i mi =
         ap (λ z. z % S .p) (dot-comm (dim S) (row S i) whole ∙ sym (dot-assoc (ts .count) (dim S) (ts .constant) (row S i) (λ t. behind (ts .dealing t) (ts .column t))))
         ∙ dot-mod-right (S .p) (ts .count) (ts .constant) _ _
-          (λ t l. ap (λ z. z % S .p) (dot-comm (dim S) (behind (ts .dealing t) (ts .column t)) (row S i))
-            ∙ behind-gives (ts .dealing t) (ts .column t) (hand .limits .columns t l) i mi
-            ∙ sym (mod-eq-of-lt (share-small t l)))
+        (λ t l. ap (λ z. z % S .p) (dot-comm (dim S) (behind (ts .dealing t) (ts .column t)) (row S i))
+        ∙ behind-gives (ts .dealing t) (ts .column t) (hand .limits .columns t l) i mi
+        ∙ sym (mod-eq-of-lt (share-small t l)))
         ∙ sym (combine-tab (S .p) (ts .count) (ts .constant) _)
       where
         share-small : (t : ℕ) → t < ts .count → at (D (ts .dealing t) .shares i) (ts .column t) < S .p
@@ -239,7 +241,7 @@ module _ (S : Setup) (group : ℕ) {I : Type 0} (D : I → Dealing) (done : Done
     unfolding whole xs
     whole-secret k h =
         dot-mod-right (S .p) (ts .count) (ts .constant) _ _
-          (λ t l. sym (mod-mod _ (S .p)) ∙ ap (λ z. z % S .p) (sym (array-at (ts .dealing t) (ts .column t) k (hand .limits .columns t l) h)))
+        (λ t l. sym (mod-mod _ (S .p)) ∙ ap (λ z. z % S .p) (sym (array-at (ts .dealing t) (ts .column t) k (hand .limits .columns t l) h)))
         ∙ sym (combine-tab (S .p) (ts .count) (ts .constant) _)
         ∙ sym (getD-tab (S .l) _ 0 k h)
 
@@ -254,11 +256,11 @@ module _ (S : Setup) (group : ℕ) {I : Type 0} (D : I → Dealing) (done : Done
     opened-right v vec g =
         ext-getD 0 (take (S .l) v) _ (length-take-le (S .l) v (omega (arith, vec .size)) ∙ sym (length-tab (S .l) _))
         (λ k m.
-          let h : k < S .l = omega (arith, length-take-le (S .l) v (omega (arith, vec .size))) in
-          getD-take (S .l) v k 0 h
-          ∙ sym (mod-eq-of-lt (vec .small k (omega arith)))
-          ∙ same-secrets S both big (hand .present) (at v) whole same k h
-          ∙ whole-secret k h)
+        let h : k < S .l = omega (arith, length-take-le (S .l) v (omega (arith, vec .size))) in
+        getD-take (S .l) v k 0 h
+        ∙ sym (mod-eq-of-lt (vec .small k (omega arith)))
+        ∙ same-secrets S both (hand .present) (at v) whole same k h
+        ∙ whole-secret k h)
       where
         same : (i : ℕ) → i < S .n → both i ≡ true → dot (dim S) (row S i) (at v) % S .p ≡ dot (dim S) (row S i) whole % S .p
         same i l t =
@@ -305,6 +307,7 @@ module _ (S : Setup) (group : ℕ) {I : Type 0} (D : I → Dealing) (done : Done
             let r = opened (given (take (S .l) v)) t (opening-is ∙ ap (openedBy (S .l)) e) in
             let w = firstVec-sound (S .p) (dim S) _ v e in
             inl (record { answer = r .0; buffer = r .1 ∙ opened-right v (w .0) (w .1) })
+
         go : (b : Bool) → allBelow (S .p) handed ≡ b → Opens S openers handed out xs ⊎ Refused S openers handed out
         go true t = answer (firstVec (S .p) (dim S) (gives S (members (S .n) (holds openers)) handed)) refl t
         go false t = let z : refusal (openRules S openers handed out) ≡ 4 = by-shares ∙ rw t refl in inr (by-four (rw z refl) (rw z refl))
@@ -314,15 +317,18 @@ module _ (S : Setup) (group : ℕ) {I : Type 0} (D : I → Dealing) (done : Done
       where
         at-place : (a : ℕ) → a < length (members (S .n) (holds openers)) → Member S group (at (members (S .n) (holds openers)) a)
         at-place a l = sub _ (member-at (S .n) (holds openers) a l)
+
         elements : allBelow (S .p) handed ≡ true
         elements =
             below-is (S .p) handed (λ a l.
-              let m : a < length (members (S .n) (holds openers)) = omega (arith, hand .count) in
-              rw (handed-is a m (at-place a m .1)) (unfold combine in mod-lt _ pos))
+            let m : a < length (members (S .n) (holds openers)) = omega (arith, hand .count) in
+            rw (handed-is a m (at-place a m .1)) (unfold combine in mod-lt _ pos))
+
         given-all : gives S (members (S .n) (holds openers)) handed (tab (dim S) (λ k. whole k % S .p)) ≡ true
         given-all =
             unfold gives in every-all (length (members (S .n) (holds openers))) _ (λ a l.
-              eq-eqb _ _ (dot-reduced (S .p) (dim S) (rowAt S (members (S .n) (holds openers)) a) whole ∙ whole-gives _ (at-place a l) ∙ sym (handed-is a l (at-place a l .1))))
+            eq-eqb _ _ (dot-reduced (S .p) (dim S) (rowAt S (members (S .n) (holds openers)) a) whole ∙ whole-gives _ (at-place a l) ∙ sym (handed-is a l (at-place a l .1))))
+
         finish : (o : Option (List ℕ)) → firstVec (S .p) (dim S) (gives S (members (S .n) (holds openers)) handed) ≡ o → Opens S openers handed out xs
         finish none e =
             let w = firstVec-complete (S .p) (dim S) _ (tab (dim S) (λ k. whole k % S .p)) (tab-vec (S .p) (dim S) _ (λ k l. mod-lt _ pos)) given-all in
@@ -346,10 +352,10 @@ module _ (S : Setup) (group : ℕ) {I : Type 0} (D : I → Dealing) (done : Done
   found′ =
       record {
         array = arrayOf;
-        one = λ t. exactly-one S group big det (D t) (arrayOf t) (array-is t) (array-agrees t);
+        one = λ t. exactly-one S group det (D t) (arrayOf t) (array-is t) (array-agrees t);
         opens = opens′;
         never-refused = never′;
-        one-column = one-column′
+        one-column = one-column′;
       }
 
 -- WHERE ALL FOLLOW THE RULES
@@ -364,6 +370,7 @@ dealt-small S secrets random ok k b = go (ltb k (S .l) && ltb b (S .l))
   where
     pos : 0 < S .p
     pos = limits-pos S (ok .setup .limits)
+
     go : (t : Bool) → pick t (entry (S .l) secrets b k) (at random (place S k b)) < S .p
     go true = below-vec (S .p) _ secrets pos (ok .vectors) (b * S .l + k)
     go false = below-vec (S .p) _ random pos (ok .entries) (place S k b)
@@ -411,8 +418,8 @@ module _ (S : Setup) (secrets random : List ℕ) (D : Dealing) (hon : Honest S s
       ∙ ap (λ z. z % S .p) (dot-comm (dim S) (at (partG S F j)) (row S i))
       ∙ dot-reduced (S .p) (dim S) (row S i) (λ b. dot (dim S) (row S j) (λ k. entry (dim S) F k b))
       ∙ ap (λ z. z % S .p)
-        (dot-comm (dim S) (row S i) (λ b. dot (dim S) (row S j) (λ k. entry (dim S) F k b))
-        ∙ sym (dot-assoc (dim S) (dim S) (row S j) (row S i) (λ k b. entry (dim S) F k b)))
+      (dot-comm (dim S) (row S i) (λ b. dot (dim S) (row S j) (λ k. entry (dim S) F k b))
+      ∙ sym (dot-assoc (dim S) (dim S) (row S j) (row S i) (λ k b. entry (dim S) F k b)))
       ∙ sym (dot-reduced (S .p) (dim S) (row S j) (λ k. dot (dim S) (λ b. entry (dim S) F k b) (row S i)))
       ∙ ap (λ h. expected S h j) (sym (h-is i l))
 
@@ -430,7 +437,7 @@ module _ (S : Setup) (secrets random : List ℕ) (D : Dealing) (hon : Honest S s
         judged = accepted i l;
         lent = hon .lent;
         settled = rw fine (unfold outcome in rw (kept-when S (D .verdicts i) (λ j m. all-said i j l m)));
-        share = hon .share i l
+        share = hon .share i l;
       }
     where
       fine : refusal (outcomeRules S (D .g i) (D .verdicts i) (hon .lent)) ≡ 0
@@ -440,7 +447,7 @@ module _ (S : Setup) (secrets random : List ℕ) (D : Dealing) (hon : Honest S s
             limits = dealing-ok i l .setup .limits;
             part = part-g′ i l;
             heard = record { size = hon .heard i l; small = λ j m. omega (arith, all-said i j l m) };
-            room = hon .room
+            room = hon .room;
           })
 
   done′ : (group : ℕ) → determinesCall S group ≡ yes → Done S group (λ (t : Unit {0}). D)
@@ -469,7 +476,7 @@ module _ (S : Setup) (secrets random : List ℕ) (D : Dealing) (hon : Honest S s
         record {
           count = length-tab (S .l) _;
           each = λ b h. rw (getD-tab (S .l) (λ b. tab (S .l) (λ k. entry (dim S) (dealt S secrets random) k b)) [] b h)
-            (tab-vec (S .p) (S .l) _ (λ k l. unfold F in entry-small k b (omega arith) (omega arith)))
+              (tab-vec (S .p) (S .l) _ (λ k l. unfold F in entry-small k b (omega arith) (omega arith)));
         }
 
     dealt-agrees : Agrees S group D (arrayDealt S secrets random)
@@ -479,21 +486,21 @@ module _ (S : Setup) (secrets random : List ℕ) (D : Dealing) (hon : Honest S s
           vector = tab (dim S) (λ k. entry (dim S) F k b);
           ok = tab-vec (S .p) (dim S) _ (λ k l. entry-small k b l (omega arith));
           begins =
-            tab-is (S .l) _ 0 (take (S .l) (tab (dim S) (λ k. entry (dim S) F k b))) len
+              tab-is (S .l) _ 0 (take (S .l) (tab (dim S) (λ k. entry (dim S) F k b))) len
               (λ k l. getD-take (S .l) _ k 0 l ∙ getD-tab (dim S) _ 0 k (omega arith))
-            ∙ sym (getD-tab (S .l) (λ b. tab (S .l) (λ k. entry (dim S) (dealt S secrets random) k b)) [] b h);
+              ∙ sym (getD-tab (S .l) (λ b. tab (S .l) (λ k. entry (dim S) (dealt S secrets random) k b)) [] b h);
           gives = λ i m.
-            ap (λ z. z % S .p) (dot-tab (dim S) (row S i) (λ k. entry (dim S) F k b))
-            ∙ sym (g-at S F i b (omega arith))
-            ∙ ap (λ g. at g b) (sym (g-is i (m .0)))
-            ∙ sym (share-at S group (λ (t : Unit {0}). D) (done′ group e) tt i m b h)
+              ap (λ z. z % S .p) (dot-tab (dim S) (row S i) (λ k. entry (dim S) F k b))
+              ∙ sym (g-at S F i b (omega arith))
+              ∙ ap (λ g. at g b) (sym (g-is i (m .0)))
+              ∙ sym (share-at S group (λ (t : Unit {0}). D) (done′ group e) tt i m b h);
         }
       where
         len : length (take (S .l) (tab (dim S) (λ k. entry (dim S) F k b))) ≡ S .l
         len = length-take-le (S .l) (tab (dim S) (λ k. entry (dim S) F k b)) (omega (arith, length-tab (dim S) (λ k. entry (dim S) F k b)))
 
     array′ : ExactlyOne S group D (arrayDealt S secrets random)
-    array′ = exactly-one S group (prime .big) (group-ok S group e .1) D (arrayDealt S secrets random) dealt-is dealt-agrees
+    array′ = exactly-one S group (group-ok S group e .1) D (arrayDealt S secrets random) dealt-is dealt-agrees
 
   -- position k of column b is position k of secret vector b
   vectors′ : (k b : ℕ) → k < S .l → b < S .l → at (column (arrayDealt S secrets random) b) k ≡ entry (S .l) secrets b k
@@ -517,23 +524,31 @@ module _ (S : Setup) (secrets random : List ℕ) (D : Dealing) (hon : Honest S s
     where
       all : Unit {0} → Dealing
       all t = D
+
       found-there : Found S s all
       found-there = found′ S s all (done′ s e)
+
       ts : Terms (Unit {0})
       ts = record { count = 1; constant = λ _. 1; dealing = λ _. tt; column = λ _. b }
+
       handed : List ℕ
       handed = tab (length (members (S .n) (holds s))) (λ a. at (D .shares (at (members (S .n) (holds s)) a)) b)
+
       big′ : 1 < S .p
       big′ = prime s e .big
+
       share-small : (i : ℕ) → Member S s i → at (D .shares i) b < S .p
       share-small i m = rw (share-at S s all (done′ s e) tt i m b h) (part-g′ i (m .0) .small b (omega arith))
+
       once : (x : ℕ) → x < S .p → combineCall (S .p) (tab 1 (λ _. 1)) (tab 1 (λ _. x)) ≡ given (x ∷ [])
       once x l = rw (fine, combine-tab (S .p) 1 (λ _. 1) (λ _. x)) (ap (λ z. given (z ∷ [])) (ap (λ z. z % S .p) (single x) ∙ mod-eq-of-lt l))
         where
           single : (x : ℕ) → dot 1 (λ _. 1) (λ _. x) ≡ x
           single x = unfold dot sum in omega arith
+
           one-long : length (tab {A = ℕ} 1 (λ k. 1)) ≡ 1
           one-long = length-tab {A = ℕ} 1 (λ k. 1)
+
           fine : refusal (combineRules (S .p) (tab 1 (λ _. 1)) (tab 1 (λ _. x))) ≡ 0
           fine =
               combine-accepts (S .p) (tab 1 (λ _. 1)) (tab 1 (λ _. x))
@@ -541,8 +556,9 @@ module _ (S : Setup) (secrets random : List ℕ) (D : Dealing) (hon : Honest S s
                 field = group-ok S s e .0 .setup .limits .field;
                 constants = rw (one-long) (tab-vec (S .p) 1 _ (λ k m. big′));
                 shares = rw (one-long) (tab-vec (S .p) 1 _ (λ k m. l));
-                few = omega (arith, one-long)
+                few = omega (arith, one-long);
               }) (omega (arith, one-long))
+
       hand : Handed S s all ts s handed
       hand =
           record {
@@ -550,15 +566,17 @@ module _ (S : Setup) (secrets random : List ℕ) (D : Dealing) (hon : Honest S s
             below = group-ok S s e .0 .inside;
             count = length-tab _ _;
             by-rule = λ a l t.
-              once (at (D .shares (at (members (S .n) (holds s)) a)) b) (share-small _ (member-at (S .n) (holds s) a l))
-              ∙ ap (λ z. given (z ∷ [])) (sym (getD-tab (length (members (S .n) (holds s))) _ 0 a l));
+                once (at (D .shares (at (members (S .n) (holds s)) a)) b) (share-small _ (member-at (S .n) (holds s) a l))
+                ∙ ap (λ z. given (z ∷ [])) (sym (getD-tab (length (members (S .n) (holds s))) _ 0 a l));
             present = unfold determines in every-all (S .l) _ (λ k l.
-              row-grows S (holds s) (λ i. holds s i && holds s i) k big′ (λ i m t. rw t refl)
-              (every-at (S .l) (hasRow S (holds s)) (unfold determines in group-ok S s e .1) k l))
+                row-grows S (holds s) (λ i. holds s i && holds s i) k big′ (λ i m t. rw t refl)
+                (every-at (S .l) (hasRow S (holds s)) (unfold determines in group-ok S s e .1) k l));
           }
+
       same-array : found-there .array tt ≡ arrayDealt S secrets random
       same-array =
-          only S s big′ (group-ok S s e .1) D _ _ (found-there .one tt .array) (dealt-is s e) (found-there .one tt .agrees) (dealt-agrees s e)
+          only S s (group-ok S s e .1) D _ _ (found-there .one tt .array) (dealt-is s e) (found-there .one tt .agrees) (dealt-agrees s e)
+
       column-is : column (arrayDealt S secrets random) b ≡ tab (S .l) (λ k. entry (S .l) secrets b k)
       column-is = tab-is (S .l) _ 0 _ (dealt-is s e .each b h .size) (λ k l. vectors′ k b l h)
 

@@ -40,8 +40,11 @@ module _ (S : Setup) (secrets random : List ℕ) (ok : DealOk S secrets random) 
   pub run : Dealing
   run =
       record {
-        g = g; h = h; values = values; verdicts = verdicts;
-        shares = λ i. outcomeLeft S (g i) (verdicts i) (replicate (S .l) 0)
+        g = g;
+        h = h;
+        values = values;
+        verdicts = verdicts;
+        shares = λ i. outcomeLeft S (g i) (verdicts i) (replicate (S .l) 0);
       }
 
   not-declined : (i : ℕ) → i < S .n → refusal (dealRules S secrets random i zeros zeros) ≡ 0
@@ -49,10 +52,37 @@ module _ (S : Setup) (secrets random : List ℕ) (ok : DealOk S secrets random) 
   not-declined i l =
       let L = limits-clear S (ok .setup .limits) in
       let z = length-replicate {A = ℕ} (dim S) 0 in
-      none-applies (dealRules S secrets random i zeros zeros)
-      (L .field, (L .secret, (L .random, (L .holders, (size-clear (S .M) _ (ok .setup .matrix .size), (size-clear secrets _ (ok .vectors .size),
-      (size-clear random _ (ok .entries .size), (size-clear zeros _ z, (size-clear zeros _ z, (elements-clear (S .p) _ (S .M) (ok .setup .matrix),
-      (elements-clear (S .p) _ secrets (ok .vectors), (elements-clear (S .p) _ random (ok .entries), (lt-leb (S .n) i l, tt)))))))))))))
+      none-applies (dealRules S secrets random i zeros zeros) (
+        L .field,
+        (
+          L .secret,
+          (
+            L .random,
+            (
+              L .holders,
+              (
+                size-clear (S .M) _ (ok .setup .matrix .size),
+                (
+                  size-clear secrets _ (ok .vectors .size),
+                  (
+                    size-clear random _ (ok .entries .size),
+                    (
+                      size-clear zeros _ z,
+                      (
+                        size-clear zeros _ z,
+                        (
+                          elements-clear (S .p) _ (S .M) (ok .setup .matrix),
+                          (elements-clear (S .p) _ secrets (ok .vectors), (elements-clear (S .p) _ random (ok .entries), (lt-leb (S .n) i l, tt))),
+                        ),
+                      ),
+                    ),
+                  ),
+                ),
+              ),
+            ),
+          ),
+        ),
+      )
 
   part-ok : (i : ℕ) → i < S .n → Vec (S .p) (dim S) (g i)
   unfolding g
@@ -62,18 +92,20 @@ module _ (S : Setup) (secrets random : List ℕ) (ok : DealOk S secrets random) 
   unfolding run
   run-honest =
       record {
-        lentG = zeros; lentH = zeros; lent = replicate (S .l) 0;
+        lentG = zeros;
+        lentH = zeros;
+        lent = replicate (S .l) 0;
         room = length-replicate {A = ℕ} (S .l) 0;
         dealing = λ i l. rw (not-declined i l) refl;
         part-g = λ i l. unfold g in refl;
         part-h = λ i l. unfold h in refl;
         received = λ i l. unfold values in length-tab (S .n) _;
         arrived = λ i j l m.
-          rw (pairValue-accepts S (g j) i (record { setup = ok .setup; part = part-ok j m; to = l }))
-          (ap (λ x. given (x ∷ [])) (unfold values in sym (getD-tab (S .n) (λ j. pairValue S (g j) i) 0 j m)));
+            rw (pairValue-accepts S (g j) i (record { setup = ok .setup; part = part-ok j m; to = l }))
+            (ap (λ x. given (x ∷ [])) (unfold values in sym (getD-tab (S .n) (λ j. pairValue S (g j) i) 0 j m)));
         heard = λ i l. unfold verdicts in length-tab (S .n) _;
         said = λ i j l m. unfold verdicts in getD-tab (S .n) (λ j. at (judgeCall S (h j) (values j) .values) 0) 0 j m;
-        share = λ i l. refl
+        share = λ i l. refl;
       }
 
   pub run-done : (group : ℕ) → determinesCall S group ≡ yes → Done S group (λ (t : Unit {0}). run)

@@ -3,6 +3,8 @@ pub mod Points
 pub mod Verdicts
 pub mod Members
 pub mod Sets
+pub mod Certificates
+pub mod Grows
 pub mod Demand
 pub mod Honest
 pub mod Cases

@@ -1,5 +1,6 @@
 -- The laws of a set's members: each has its place, the places rise, there are as many as the set's number has ones, and a loop that takes the
 -- lowest one off that number goes through them.
+-- Left: what such a loop keeps, the members of rest being those of the list ms from place k on
 use mathlib.Core.Path.{_≡_, refl, ap, ap₂, sym, _∙_}
 use mathlib.Core.Bool.{Bool, true, false, false≢true}
 use mathlib.Core.List.{List, [], _∷_}
@@ -13,7 +14,6 @@ use lib.Dec.{eqb}
 use lib.ListN.{length, drop, length-drop}
 use lib.Pow.{shr-shr}
 use lib.Seq.{drop-cons}
-use borrow.Author.Tests.{eq-eqb, ne-eqb}
 use Rattle.base.proofs.Choice.{either}
 use Rattle.linear.specs.Dot.{at}
 use Rattle.scheme.specs.Sets.{holds, consIf, membersFrom, members}
@@ -194,6 +194,9 @@ bits-next (suc k) i n h p =
     (λ e. bits-odd n i k e ∙ rw (zeros-odd k n e, and-odd n e, bits-twice, add-zero))
     (λ e. bits-even n i k e ∙ ih (omega arith) ∙ rw (zeros-even k n e, and-even n p e, bits-twice, suc-add, add-suc))
 
+pub next-less : (rest : ℕ) → (rest ≡ 0 → ⊥) → bitAnd rest (rest - 1) < rest
+next-less rest more = omega (arith, and-le-r rest (rest - 1), more)
+
 -- `while rest != 0 { let i = trailing_zeros(rest); ..; rest = rest & (rest - 1); }`: in each turn i is the lowest member of rest, and the others stay
 module _ (w rest : ℕ) (fits : rest < 2 ^ w) (more : rest ≡ 0 → ⊥) where
   pub members-next : members w (holds rest) ≡ trailingZeros w rest ∷ members w (holds (bitAnd rest (rest - 1)))
@@ -204,25 +207,36 @@ module _ (w rest : ℕ) (fits : rest < 2 ^ w) (more : rest ≡ 0 → ⊥) where
       let e = members-next in
       rw e at (member-at w (holds rest) 0 (rw e (omega arith)) .0)
 
-  pub less-left : bitAnd rest (rest - 1) < rest
-  less-left = omega (arith, and-le-r rest (rest - 1), more)
-
-  -- where the members of rest are those of a list from place k on
-  module _ (ms : List ℕ) (k : ℕ) (left : members w (holds rest) ≡ drop k ms) where
-    pub turn-place : k < length ms
-    turn-place = omega (arith, ap length (sym members-next ∙ left), length-drop k ms)
-
-    same : trailingZeros w rest ∷ members w (holds (bitAnd rest (rest - 1))) ≡ at ms k ∷ drop (suc k) ms
-    same = sym members-next ∙ left ∙ drop-cons ms k 0 turn-place
-
-    pub turn-member : trailingZeros w rest ≡ at ms k
-    turn-member = let e = same in cc
-
-    pub turn-left : members w (holds (bitAnd rest (rest - 1))) ≡ drop (k + 1) ms
-    turn-left = let e = same in rw add-one (cc)
-
 pub members-none : (w : ℕ) → members w (holds 0) ≡ []
 members-none w = whole w 0 ∙ bits-none 0 w
+
+-- with k, the members done, counted up
+pub record Left (w : ℕ) (ms : List ℕ) (rest k : ℕ) : Type 0 where
+  pub fits : rest < 2 ^ w
+  pub done : k ≤ length ms
+  pub left : members w (holds rest) ≡ drop k ms
+
+pub left-start : (w s : ℕ) (ms : List ℕ) → s < 2 ^ w → members w (holds s) ≡ ms → Left w ms s 0
+left-start w s ms h e = record { fits = h; done = omega arith; left = e }
+
+module _ {w : ℕ} {ms : List ℕ} {rest k : ℕ} (inv : Left w ms rest k) where
+  pub left-end : rest ≡ 0 → k ≡ length ms
+  left-end z =
+      let e : drop k ms ≡ [] = sym (inv .left) ∙ ap (λ n. members w (holds n)) z ∙ members-none w in
+      omega (arith, ap length e, length-drop k ms)
+
+  module _ (more : rest ≡ 0 → ⊥) where
+    pub left-place : k < length ms
+    left-place = omega (arith, ap length (sym (members-next w rest (inv .fits) more) ∙ inv .left), length-drop k ms)
+
+    same : trailingZeros w rest ∷ members w (holds (bitAnd rest (rest - 1))) ≡ at ms k ∷ drop (suc k) ms
+    same = sym (members-next w rest (inv .fits) more) ∙ inv .left ∙ drop-cons ms k 0 left-place
+
+    pub left-member : trailingZeros w rest ≡ at ms k
+    left-member = let e = same in cc
+
+    pub left-turn : Left w ms (bitAnd rest (rest - 1)) (k + 1)
+    left-turn = record { fits = omega (arith, next-less rest more); done = omega (arith, left-place); left = let e = same in rw add-one (cc) }
 
 bits-on : (w k i n : ℕ) → trailingZeros w n < w → trailingZeros w n < k
     → bitsFrom n i k ≡ (i + trailingZeros w n) ∷ bitsFrom (n / 2 ^ suc (trailingZeros w n)) (i + suc (trailingZeros w n)) (k - suc (trailingZeros w n))
@@ -233,9 +247,8 @@ bits-on (suc w) (suc k) i n hw hk =
     let z = trailingZeros (suc w) n in
     parity n (bitsFrom n i (suc k) ≡ (i + z) ∷ bitsFrom (n / 2 ^ suc z) (i + suc z) (suc k - suc z))
     (λ e. bits-odd n i k e ∙ rw (zeros-odd w n e, add-zero, add-one, suc-sub-suc, sub-zero))
-    (λ e.
-      let d = zeros-even w n e in
-      bits-even n i k e ∙ ih (omega arith) (omega arith) ∙ rw (d, shr-shr n 1 (suc (trailingZeros w (n / 2))), suc-sub-suc) (simp (one-add, suc-add, add-suc)))
+    (λ e. bits-even n i k e ∙ ih (omega (arith, zeros-even w n e)) (omega (arith, zeros-even w n e))
+    ∙ rw (zeros-even w n e, shr-shr n 1 (suc (trailingZeros w (n / 2))), suc-sub-suc) (simp (one-add, suc-add, add-suc)))
 
 -- the next member from i on is as far on as the number from there on has zeros at its low end
 pub next-member : (s w k i : ℕ) → trailingZeros w (s / 2 ^ i) < w → trailingZeros w (s / 2 ^ i) < k

@@ -1,4 +1,15 @@
-// The types that the calls take and answer with. What each case means in document 01 is said by `paper` in specs/Answers.antt.
+// The types that the calls take and answer with, and the refusals that they share. What each case of a type means in document 01 is said by the
+// `paper` definitions of specs/Answers.antt.
+ghost use mathlib.Core.Path.{_≡_};
+ghost use mathlib.Core.Bool.{not, _||_};
+ghost use mathlib.Core.List.{[]};
+ghost use Prim.Native.Nat.{_+_, _*_, _≤_};
+ghost use lib.Dec.{eqb, ltb};
+ghost use lib.ListN.{length};
+ghost use Rattle.base.specs.Rules.{orWhen, refusal};
+ghost use Rattle.base.specs.Matrix.{allBelow};
+ghost use Rattle.scheme.specs.Setup.{setupOf};
+ghost use Rattle.scheme.specs.Calls.{outside, limits};
 
 // The numbers of a setup; the matrix is lent beside them.
 pub struct Params {
@@ -76,4 +87,52 @@ pub enum Opened {
     Undetermined(u16),
     Inconsistent,
     Refused(u16),
+}
+
+// d = ℓ + e.
+pub fn dim(s: Params) -> usize
+    ensures { λ r. ⌜ (r ≡ s .l + s .e) × (r ≤ 131070) ⌝ }
+{
+    (s.l as usize) + (s.e as usize)
+}
+
+// The length of the matrix, and of a list of one part for each holder: n * d.
+pub fn matrix_len(s: Params) -> usize
+    ensures { λ r. ⌜ r ≡ s .n * (s .l + s .e) ⌝ }
+{
+    (s.n as usize) * dim(s)
+}
+
+// Whether x is below low or above high.
+fn outside(low: u16, high: u16, x: u16) -> bool
+    ensures { λ r. ⌜ r ≡ outside low high x ⌝ }
+{
+    if x < low {
+        return true;
+    }
+    high < x
+}
+
+// Refusals 1 and 2, which every call with a setup has.
+pub fn limits_refusal(s: Params) -> u16
+    ensures { λ r. ⌜ r ≡ refusal (limits (setupOf s [])) ⌝ }
+{
+    let a = base::or_when(0, 1, field::no_field(s.p));
+    let b = base::or_when(a, 2, outside(1, 8, s.l));
+    let c = base::or_when(b, 2, outside(1, 8, s.e));
+    base::or_when(c, 2, outside(1, 32, s.n))
+}
+
+// One rule of refusal 3: a lent length is not the one needed.
+pub fn or_size(standing: u16, len: usize, needed: usize) -> u16
+    ensures { λ r. ⌜ r ≡ orWhen standing 3 (not (eqb len needed)) ⌝ }
+{
+    base::or_when(standing, 3, len != needed)
+}
+
+// One rule of refusal 4: an element is p or more.
+pub fn or_elements(standing: u16, p: u16, s: &[u16]) -> u16
+    ensures { λ r. ⌜ r ≡ orWhen standing 4 (not (allBelow p (now (s .entry)))) ⌝ }
+{
+    base::or_when(standing, 4, !base::all_below(s, p))
 }
