@@ -1,5 +1,5 @@
-// Dealing and judging: the open calls. Each first works out its refusal by the table of scheme's specs/Calls.antt; where there is none it works on inputs
-// that are in order.
+// Judging and combining: the open calls. Each first works out its refusal by the table of scheme's specs/Calls.antt; where there is none it works on
+// inputs that are in order.
 ghost use mathlib.Core.Path.{_≡_};
 ghost use Rattle.base.specs.Rules.{refusal};
 ghost use Rattle.scheme.specs.Setup.{setupOf};

@@ -1,7 +1,7 @@
 -- The rules of the table, in its order.
 use borrow.Author.Needs.{needs}
-use Rattle.dealing.proofs.pair_value_refusal.Statement.{statement}
-use Rattle.dealing.proofs.pair_value_refusal.Tie as tie
+use Rattle.judging.proofs.pair_value_refusal.Statement.{statement}
+use Rattle.judging.proofs.pair_value_refusal.Tie as tie
 
 limits-refusal-requires : tie.Need-limits-refusal-requires
 limits-refusal-requires c κs = search needs
