@@ -1,2 +1,4 @@
 pub mod Dot
+pub mod Elimination
+pub mod Contracts
 pub mod Polynomial

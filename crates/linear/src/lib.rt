@@ -1,8 +1,13 @@
-// Dot products and linear systems modulo a prime.
+// Dot products, and Gauss-Jordan elimination modulo a prime on lent flat buffers with what is read off the reduced matrix: a solution, a refuted equation,
+// whether a position is determined. `a` holds `rows` rows of `width` entries; `used` holds, for each row, 0 or one more than the column of its pivot.
 ghost use mathlib.Core.Path.{_≡_};
 ghost use Prim.Native.Nat.{ℕ, _+_, _*_, _%_, _<_, _≤_};
-ghost use lib.ListN.{length};
-ghost use Rattle.linear.specs.Dot.{dot, along};
+ghost use lib.ListN.{length, getD};
+ghost use Rattle.base.specs.Fill.{tab};
+ghost use Rattle.base.specs.Matrix.{Below};
+ghost use Rattle.linear.specs.Dot.{at, dot, along};
+ghost use Rattle.linear.specs.Elimination.{pivotRow, alone, subEntry, subTo, scaleEntry, scaleTo, flatPivot, flatShown, flatUnsolved, flatFixes};
+ghost use Rattle.linear.specs.Contracts.{buffers, Fits, Ready, RowCleared, ColumnCleared, RowUsed, ColumnPassed, Reduction};
 
 // The product of d entries of u from u_at on and d entries of v from v_at on, v_step apart: summed in u64 and reduced once.
 pub fn dot_product(
@@ -27,4 +32,230 @@ pub fn dot_product(
         k += 1;
     }
     field::residue(p, sum)
+}
+
+// y - f x modulo p.
+pub fn sub_entry(y: u64, x: u64, f: u16, p: u16) -> u16
+    requires { ⌜ (y ≤ 65535) × (x ≤ 65535) × (f ≤ p) × (0 < p) ⌝ }
+    ensures { λ r. ⌜ r ≡ subEntry p f y x ⌝ }
+{
+    let g = (p - f) as u64;
+    ((y + g * x) % (p as u64)) as u16
+}
+
+// The row that starts at t becomes that row less f times the row that starts at q.
+pub fn sub_row(a: &mut [u16], width: usize, t: usize, q: usize, f: u16, p: u16)
+    requires { ⌜ (t + width ≤ length (now a)) × (q + width ≤ length (now a)) × (f ≤ p) × (0 < p) ⌝ }
+    ensures { λ _. ⌜ now (a .exit) ≡ subTo p f t q width (now (a .entry)) ⌝ }
+{
+    let mut c = 0;
+    while c < width {
+        let x = base::at(a, q + c);
+        let y = base::at(a, t + c);
+        a[t + c] = sub_entry(y, x, f, p);
+        c += 1;
+    }
+}
+
+// Clears the entry of row r in a column by the pivot row k.
+pub fn clear_row(a: &mut [u16], width: usize, k: usize, col: usize, r: usize, p: u16)
+    requires { ⌜ (r * width + width ≤ length (now a)) × (k * width + width ≤ length (now a)) × (col < width) × (0 < p) ⌝ }
+    requires { ⌜ Below p (now a) ⌝ }
+    ensures { λ _. ⌜ RowCleared p width k col r (now (a .entry)) (now (a .exit)) ⌝ }
+{
+    if r == k {
+        return;
+    }
+    let t = r * width;
+    let f = a[t + col];
+    if f == 0 {
+        return;
+    }
+    sub_row(a, width, t, k * width, f, p);
+}
+
+// Clears a column by the pivot row k.
+pub fn clear_column(a: &mut [u16], rows: usize, width: usize, k: usize, col: usize, p: u16)
+    requires { ⌜ (length (now a) ≡ rows * width) × (k < rows) × (col < width) × (0 < p) ⌝ }
+    requires { ⌜ Below p (now a) ⌝ }
+    ensures { λ _. ⌜ ColumnCleared p rows width k col (now (a .entry)) (now (a .exit)) ⌝ }
+{
+    let mut r = 0;
+    while r < rows {
+        clear_row(a, width, k, col, r, p);
+        r += 1;
+    }
+}
+
+// k x modulo p.
+pub fn scale_entry(k: u16, x: u64, p: u16) -> u16
+    requires { ⌜ (x ≤ 65535) × (0 < p) ⌝ }
+    ensures { λ r. ⌜ r ≡ scaleEntry p k x ⌝ }
+{
+    ((k as u64) * x % (p as u64)) as u16
+}
+
+// The row that starts at t becomes k times that row.
+pub fn scale_row(a: &mut [u16], width: usize, t: usize, k: u16, p: u16)
+    requires { ⌜ (t + width ≤ length (now a)) × (0 < p) ⌝ }
+    ensures { λ _. ⌜ now (a .exit) ≡ scaleTo p k t width (now (a .entry)) ⌝ }
+{
+    let mut c = 0;
+    while c < width {
+        let x = base::at(a, t + c);
+        a[t + c] = scale_entry(k, x, p);
+        c += 1;
+    }
+}
+
+// The topmost unused row with an entry in the column, or `rows`.
+pub fn find_pivot(a: &[u16], used: &[u16], rows: usize, width: usize, col: usize) -> usize
+    requires { ⌜ Fits rows width (now a) (now used) ⌝ }
+    requires { ⌜ col < width ⌝ }
+    ensures { λ r. ⌜ r ≡ flatPivot rows width col (buffers (now (a .entry)) (now (used .entry))) ⌝ }
+{
+    let mut top = 0;
+    while top < rows {
+        if used[top] == 0 {
+            if a[top * width + col] != 0 {
+                return top;
+            }
+        }
+        top += 1;
+    }
+    top
+}
+
+// The mark of a row whose pivot stands in the column.
+pub fn mark(col: usize) -> u16
+    requires { ⌜ col < 64 ⌝ }
+    ensures { λ r. ⌜ r ≡ col + 1 ⌝ }
+{
+    (col + 1) as u16
+}
+
+// Row k becomes the pivot row of the column.
+pub fn use_row(
+    a: &mut [u16],
+    used: &mut [u16],
+    rows: usize,
+    width: usize,
+    k: usize,
+    col: usize,
+    p: u16,
+)
+    requires { ⌜ Ready p rows width (now a) (now used) ⌝ }
+    requires { ⌜ (k < rows) × (col < width) ⌝ }
+    ensures { λ _. ⌜ RowUsed p rows width k col (now (a .entry)) (now (used .entry)) (now (a .exit)) (now (used .exit)) ⌝ }
+{
+    let t = k * width;
+    let x = a[t + col];
+    let scale = field::inverse(p, x);
+    used[k] = mark(col);
+    scale_row(a, width, t, scale, p);
+    clear_column(a, rows, width, k, col, p);
+}
+
+// One column of the elimination.
+pub fn pass_column(a: &mut [u16], used: &mut [u16], rows: usize, width: usize, col: usize, p: u16)
+    requires { ⌜ Ready p rows width (now a) (now used) ⌝ }
+    requires { ⌜ col < width ⌝ }
+    ensures { λ _. ⌜ ColumnPassed p rows width col (now (a .entry)) (now (used .entry)) (now (a .exit)) (now (used .exit)) ⌝ }
+{
+    let k = find_pivot(a, used, rows, width, col);
+    if k < rows {
+        use_row(a, used, rows, width, k, col, p);
+    }
+}
+
+// Gauss-Jordan elimination by the first `pivots` columns.
+pub fn reduce(a: &mut [u16], used: &mut [u16], rows: usize, width: usize, pivots: usize, p: u16)
+    requires { ⌜ Ready p rows width (now a) (now used) ⌝ }
+    requires { ⌜ pivots ≤ width ⌝ }
+    ensures { λ _. ⌜ Reduction p rows width pivots (now (a .entry)) (now (used .entry)) (now (a .exit)) (now (used .exit)) ⌝ }
+{
+    let mut col = 0;
+    while col < pivots {
+        pass_column(a, used, rows, width, col, p);
+        col += 1;
+    }
+}
+
+// The row whose pivot stands in column q, or `rows`.
+pub fn pivot_row(used: &[u16], rows: usize, q: usize) -> usize
+    requires { ⌜ (length (now used) ≡ rows) × (q < 64) ⌝ }
+    ensures { λ r. ⌜ r ≡ pivotRow rows (at (now (used .entry))) q ⌝ }
+{
+    let m = mark(q);
+    let mut i = 0;
+    while i < rows {
+        if used[i] == m {
+            return i;
+        }
+        i += 1;
+    }
+    i
+}
+
+// Entry j of the vector that column b shows.
+pub fn shown(a: &[u16], used: &[u16], rows: usize, width: usize, b: usize, j: usize) -> u16
+    requires { ⌜ Fits rows width (now a) (now used) ⌝ }
+    requires { ⌜ (b < width) × (j < 64) ⌝ }
+    ensures { λ r. ⌜ r ≡ flatShown rows width b (buffers (now (a .entry)) (now (used .entry))) j ⌝ }
+{
+    let r = pivot_row(used, rows, j);
+    if r < rows { a[r * width + b] } else { 0 }
+}
+
+// Writes the vector that column b shows: the solution, where no equation of that column is unsolved.
+pub fn solution(a: &[u16], used: &[u16], rows: usize, width: usize, b: usize, x: &mut [u16])
+    requires { ⌜ Fits rows width (now a) (now used) ⌝ }
+    requires { ⌜ (b < width) × (length (now x) ≤ 64) ⌝ }
+    ensures { λ _. ⌜ now (x .exit) ≡ tab (length (now (x .entry))) (flatShown rows width b (buffers (now (a .entry)) (now (used .entry)))) ⌝ }
+{
+    let mut j = 0;
+    while j < x.len() {
+        x[j] = shown(a, used, rows, width, b, j);
+        j += 1;
+    }
+}
+
+// The first unused row with an entry in column b, or `rows`, where the system with its right side there has a solution.
+pub fn unsolved(a: &[u16], used: &[u16], rows: usize, width: usize, b: usize) -> usize
+    requires { ⌜ Fits rows width (now a) (now used) ⌝ }
+    requires { ⌜ b < width ⌝ }
+    ensures { λ r. ⌜ r ≡ flatUnsolved rows width b (buffers (now (a .entry)) (now (used .entry))) ⌝ }
+{
+    find_pivot(a, used, rows, width, b)
+}
+
+// Whether the row that starts at t has no entry in the first `pivots` columns but at q.
+pub fn alone(a: &[u16], t: usize, pivots: usize, q: usize) -> bool
+    requires { ⌜ t + pivots ≤ length (now a) ⌝ }
+    ensures { λ r. ⌜ r ≡ alone pivots (λ j. getD (now (a .entry)) (t + j) 0) q ⌝ }
+{
+    let mut j = 0;
+    while j < pivots {
+        if q != j {
+            if a[t + j] != 0 {
+                return false;
+            }
+        }
+        j += 1;
+    }
+    true
+}
+
+// Whether position q is determined by the rows.
+pub fn fixes(a: &[u16], used: &[u16], rows: usize, width: usize, pivots: usize, q: usize) -> bool
+    requires { ⌜ Fits rows width (now a) (now used) ⌝ }
+    requires { ⌜ (pivots ≤ width) × (q < pivots) ⌝ }
+    ensures { λ r. ⌜ r ≡ flatFixes rows width pivots (buffers (now (a .entry)) (now (used .entry))) q ⌝ }
+{
+    let r = pivot_row(used, rows, q);
+    if r < rows {
+        alone(a, r * width, pivots, q)
+    } else {
+        false
+    }
 }

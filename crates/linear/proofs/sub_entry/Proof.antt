@@ -1,0 +1,36 @@
+-- The sum of an entry and a product of two numbers of 16 bits fits 64 bits, so the code computes the definition.
+use Prim.Native.Nat.{_+_, _-_, _*_}
+use mathlib.Core.Path.{refl}
+use native.Mathlib.Omega.{arith}
+use native.Mathlib.Nat.{mod-lt}
+use borrow.Author.Needs.{needs}
+use Rattle.linear.specs.Elimination.{subEntry}
+use Rattle.linear.proofs.Flat.{prod-le}
+use Rattle.linear.proofs.sub_entry.Statement.{statement}
+use Rattle.linear.proofs.sub_entry.Tie as tie
+
+sub-g : tie.Need-sub-g
+sub-g c = search needs
+
+cast-g : tie.Need-cast-g
+cast-g c = search needs
+
+mul-result : tie.Need-mul-result
+mul-result c = omega (arith, prod-le (c .args .p - c .args .f) (c .args .x) (omega arith) (omega arith))
+
+add-result : tie.Need-add-result
+add-result c = omega (arith, prod-le (c .args .p - c .args .f) (c .args .x) (omega arith) (omega arith))
+
+rem-result : tie.Need-rem-result
+rem-result c = search needs
+
+cast-result : tie.Need-cast-result
+cast-result c = omega (arith, mod-lt (c .args .y + (c .args .p - c .args .f) * c .args .x) (c .pre .3))
+
+returns : tie.Need-returns
+unfolding subEntry
+returns c = refl
+
+pub sub-entry-spec : {M : Type 1} → statement M
+sub-entry-spec =
+    tie.close (tie.spec sub-g cast-g mul-result add-result rem-result cast-result returns)

@@ -1,0 +1,600 @@
+//! Document 01 in plain safe Rust: every call and the holder's file, written from the document in the most direct way. It shares nothing with the
+//! proved library; the two are compared on many inputs.
+
+/// A refusal's number (0: none) and the values given beside it.
+#[derive(Clone, Debug, PartialEq, Eq)]
+pub struct Answer {
+    pub number: u16,
+    pub values: Vec<u16>,
+}
+
+pub fn refused(number: u16) -> Answer {
+    Answer { number, values: vec![] }
+}
+
+pub fn given(values: &[u16]) -> Answer {
+    Answer { number: 0, values: values.to_vec() }
+}
+
+pub const PRIMES: [u16; 5] = [2, 7, 251, 257, 65521];
+
+/// The numbers of a setup.
+#[derive(Clone, Copy, Debug, PartialEq, Eq)]
+pub struct Params {
+    pub p: u16,
+    pub l: u16,
+    pub e: u16,
+    pub n: u16,
+}
+
+impl Params {
+    pub fn d(&self) -> usize {
+        self.l as usize + self.e as usize
+    }
+    pub fn entries(&self) -> usize {
+        self.n as usize * self.d()
+    }
+    fn limits(&self) -> Vec<u16> {
+        let mut found = vec![];
+        if !PRIMES.contains(&self.p) {
+            found.push(1);
+        }
+        if !(1..=8).contains(&self.l) || !(1..=8).contains(&self.e) || !(1..=32).contains(&self.n) {
+            found.push(2);
+        }
+        found
+    }
+}
+
+/// The refusals that apply; the lowest is given.
+struct Faults(Vec<u16>);
+
+impl Faults {
+    fn of(s: &Params) -> Self {
+        Faults(s.limits())
+    }
+    fn when(&mut self, number: u16, test: bool) {
+        if test {
+            self.0.push(number);
+        }
+    }
+    fn length(&mut self, xs: &[u16], needed: usize) {
+        self.when(3, xs.len() != needed);
+    }
+    fn elements(&mut self, p: u16, xs: &[u16]) {
+        self.when(4, xs.iter().any(|&x| x >= p));
+    }
+    fn lowest(&self) -> Option<u16> {
+        self.0.iter().copied().min()
+    }
+}
+
+fn times(p: u16, a: u16, b: u16) -> u16 {
+    (a as u64 * b as u64 % p as u64) as u16
+}
+
+fn plus(p: u16, a: u16, b: u16) -> u16 {
+    ((a as u64 + b as u64) % p as u64) as u16
+}
+
+fn minus(p: u16, a: u16, b: u16) -> u16 {
+    plus(p, a, p - b)
+}
+
+/// a to the p − 2, the inverse of a nonzero a (Fermat).
+fn inverse(p: u16, a: u16) -> u16 {
+    let mut result = 1 % p;
+    let mut base = a;
+    let mut k = p - 2;
+    while k > 0 {
+        if k & 1 == 1 {
+            result = times(p, result, base);
+        }
+        base = times(p, base, base);
+        k >>= 1;
+    }
+    result
+}
+
+fn dot(p: u16, u: impl Iterator<Item = u16>, v: impl Iterator<Item = u16>) -> u16 {
+    u.zip(v).fold(0, |sum, (a, b)| plus(p, sum, times(p, a, b)))
+}
+
+fn row<'a>(s: &Params, m: &'a [u16], i: usize) -> &'a [u16] {
+    &m[i * s.d()..(i + 1) * s.d()]
+}
+
+// ---- the calls
+
+/// The points matrix: row i gives, from the values at 0 .. d − 1, the value at d + i.
+pub fn points(s: Params, matrix: &mut [u16]) -> Answer {
+    let mut f = Faults::of(&s);
+    f.length(matrix, s.entries());
+    f.when(15, s.d() + s.n as usize > s.p as usize);
+    if let Some(k) = f.lowest() {
+        return refused(k);
+    }
+    let d = s.d();
+    for i in 0..s.n as usize {
+        for j in 0..d {
+            let (mut above, mut below) = (1 % s.p, 1 % s.p);
+            for t in 0..d {
+                if t != j {
+                    above = times(s.p, above, minus(s.p, (d + i) as u16, t as u16));
+                    below = times(s.p, below, minus(s.p, j as u16, t as u16));
+                }
+            }
+            matrix[i * d + j] = times(s.p, above, inverse(s.p, below));
+        }
+    }
+    given(&[])
+}
+
+/// F by rows: position k of secret vector b in row k and column b, the lent entries elsewhere, row by row.
+fn dealt(s: &Params, secrets: &[u16], random: &[u16]) -> Vec<Vec<u16>> {
+    let (l, d) = (s.l as usize, s.d());
+    let mut lent = random.iter();
+    (0..d)
+        .map(|k| (0..d).map(|b| if k < l && b < l { secrets[b * l + k] } else { *lent.next().unwrap() }).collect())
+        .collect()
+}
+
+fn part_g(s: &Params, m: &[u16], f: &[Vec<u16>], i: usize) -> Vec<u16> {
+    (0..s.d()).map(|b| dot(s.p, row(s, m, i).iter().copied(), f.iter().map(|r| r[b]))).collect()
+}
+
+fn part_h(s: &Params, m: &[u16], f: &[Vec<u16>], i: usize) -> Vec<u16> {
+    f.iter().map(|r| dot(s.p, r.iter().copied(), row(s, m, i).iter().copied())).collect()
+}
+
+fn deal_faults(s: &Params, m: &[u16], secrets: &[u16], random: &[u16]) -> Faults {
+    let mut f = Faults::of(s);
+    f.length(m, s.entries());
+    f.length(secrets, s.l as usize * s.l as usize);
+    f.length(random, s.d() * s.d() - s.l as usize * s.l as usize);
+    f.elements(s.p, m);
+    f.elements(s.p, secrets);
+    f.elements(s.p, random);
+    f
+}
+
+pub fn deal(s: Params, m: &[u16], secrets: &[u16], random: &[u16], holder: u16, g: &mut [u16], h: &mut [u16]) -> Answer {
+    let mut f = deal_faults(&s, m, secrets, random);
+    f.length(g, s.d());
+    f.length(h, s.d());
+    f.when(5, holder >= s.n);
+    if let Some(k) = f.lowest() {
+        return refused(k);
+    }
+    let all = dealt(&s, secrets, random);
+    g.copy_from_slice(&part_g(&s, m, &all, holder as usize));
+    h.copy_from_slice(&part_h(&s, m, &all, holder as usize));
+    given(&[])
+}
+
+pub fn deal_all(s: Params, m: &[u16], secrets: &[u16], random: &[u16], gs: &mut [u16], hs: &mut [u16]) -> Answer {
+    let mut f = deal_faults(&s, m, secrets, random);
+    f.length(gs, s.entries());
+    f.length(hs, s.entries());
+    if let Some(k) = f.lowest() {
+        return refused(k);
+    }
+    let (all, d) = (dealt(&s, secrets, random), s.d());
+    for i in 0..s.n as usize {
+        gs[i * d..(i + 1) * d].copy_from_slice(&part_g(&s, m, &all, i));
+        hs[i * d..(i + 1) * d].copy_from_slice(&part_h(&s, m, &all, i));
+    }
+    given(&[])
+}
+
+fn value_for(s: &Params, m: &[u16], g: &[u16], i: usize) -> u16 {
+    dot(s.p, g.iter().copied(), row(s, m, i).iter().copied())
+}
+
+fn due_from(s: &Params, m: &[u16], h: &[u16], j: usize) -> u16 {
+    dot(s.p, row(s, m, j).iter().copied(), h.iter().copied())
+}
+
+pub fn pair_value(s: Params, m: &[u16], g: &[u16], to: u16) -> Answer {
+    let mut f = Faults::of(&s);
+    f.length(m, s.entries());
+    f.length(g, s.d());
+    f.elements(s.p, m);
+    f.elements(s.p, g);
+    f.when(5, to >= s.n);
+    match f.lowest() {
+        Some(k) => refused(k),
+        None => given(&[value_for(&s, m, g, to as usize)]),
+    }
+}
+
+/// None accepts, Some(j) rejects and names the lowest j that differs.
+fn judgement(s: &Params, m: &[u16], h: &[u16], values: &[u16]) -> Option<u16> {
+    (0..s.n).find(|&j| values[j as usize] != due_from(s, m, h, j as usize))
+}
+
+/// 1, or 0 and the holder named.
+fn named(found: Option<u16>) -> Answer {
+    match found {
+        None => given(&[1]),
+        Some(j) => given(&[0, j]),
+    }
+}
+
+pub fn judge(s: Params, m: &[u16], h: &[u16], values: &[u16]) -> Answer {
+    let mut f = Faults::of(&s);
+    f.length(m, s.entries());
+    f.length(h, s.d());
+    f.length(values, s.n as usize);
+    f.elements(s.p, m);
+    f.elements(s.p, h);
+    f.elements(s.p, values);
+    match f.lowest() {
+        Some(k) => refused(k),
+        None => named(judgement(&s, m, h, values)),
+    }
+}
+
+pub fn outcome(s: Params, g: &[u16], verdicts: &[u16], shares: &mut [u16]) -> Answer {
+    let mut f = Faults::of(&s);
+    f.length(g, s.d());
+    f.length(verdicts, s.n as usize);
+    f.length(shares, s.l as usize);
+    f.elements(s.p, g);
+    f.when(12, verdicts.iter().any(|&v| v > 1));
+    if let Some(k) = f.lowest() {
+        return refused(k);
+    }
+    let found = (0..s.n).find(|&i| verdicts[i as usize] == 0);
+    if found.is_none() {
+        shares.copy_from_slice(&g[..s.l as usize]);
+    }
+    named(found)
+}
+
+pub fn rehearse(s: Params, m: &[u16], gs: &[u16], hs: &[u16]) -> Answer {
+    let mut f = Faults::of(&s);
+    f.length(m, s.entries());
+    f.length(gs, s.entries());
+    f.length(hs, s.entries());
+    f.elements(s.p, m);
+    f.elements(s.p, gs);
+    f.elements(s.p, hs);
+    if let Some(k) = f.lowest() {
+        return refused(k);
+    }
+    for i in 0..s.n as usize {
+        for j in 0..s.n as usize {
+            if value_for(&s, m, row(&s, gs, j), i) != due_from(&s, m, row(&s, hs, i), j) {
+                return given(&[0, i as u16, j as u16]);
+            }
+        }
+    }
+    given(&[1])
+}
+
+pub fn combine(p: u16, constants: &[u16], shares: &[u16]) -> Answer {
+    let mut f = Faults(vec![]);
+    f.when(1, !PRIMES.contains(&p));
+    f.length(shares, constants.len());
+    f.when(3, constants.len() > 64 || shares.len() > 64);
+    f.elements(p, constants);
+    f.elements(p, shares);
+    f.when(14, constants.is_empty() && shares.is_empty());
+    match f.lowest() {
+        Some(k) => refused(k),
+        None => given(&[dot(p, constants.iter().copied(), shares.iter().copied())]),
+    }
+}
+
+// ---- sets and openings
+
+fn members(set: u32) -> Vec<usize> {
+    (0..32).filter(|i| set >> i & 1 == 1).collect()
+}
+
+/// Some solution of the rows (coefficients, then the right side), by Gaussian elimination with row exchanges.
+fn solve(p: u16, mut rows: Vec<Vec<u16>>, unknowns: usize) -> Option<Vec<u16>> {
+    let mut pivots = vec![];
+    let mut top = 0;
+    for c in 0..unknowns {
+        let Some(found) = (top..rows.len()).find(|&r| rows[r][c] != 0) else { continue };
+        rows.swap(top, found);
+        let k = inverse(p, rows[top][c]);
+        for x in rows[top].iter_mut() {
+            *x = times(p, *x, k);
+        }
+        for r in 0..rows.len() {
+            let factor = rows[r][c];
+            if r != top && factor != 0 {
+                for x in 0..=unknowns {
+                    let t = times(p, factor, rows[top][x]);
+                    rows[r][x] = minus(p, rows[r][x], t);
+                }
+            }
+        }
+        pivots.push(c);
+        top += 1;
+    }
+    if rows[top..].iter().any(|r| r[unknowns] != 0) {
+        return None;
+    }
+    let mut x = vec![0; unknowns];
+    for (r, &c) in pivots.iter().enumerate() {
+        x[c] = rows[r][unknowns];
+    }
+    Some(x)
+}
+
+/// A reconstruction row for position q.
+fn reconstruction_row(s: &Params, m: &[u16], set: u32, q: usize) -> Option<Vec<u16>> {
+    let ms = members(set);
+    let rows = (0..s.d())
+        .map(|c| ms.iter().map(|&i| row(s, m, i)[c]).chain([(c == q) as u16]).collect())
+        .collect();
+    solve(s.p, rows, ms.len())
+}
+
+/// A sweeping vector for position q: the last e entries solve against column q.
+fn sweeping_vector(s: &Params, m: &[u16], set: u32, q: usize) -> Option<Vec<u16>> {
+    let (l, e) = (s.l as usize, s.e as usize);
+    let rows = members(set)
+        .iter()
+        .map(|&i| {
+            let r = row(s, m, i);
+            r[l..].iter().copied().chain([minus(s.p, 0, r[q])]).collect()
+        })
+        .collect();
+    let tail = solve(s.p, rows, e)?;
+    Some((0..l).map(|c| (c == q) as u16).chain(tail).collect())
+}
+
+fn set_faults(s: &Params, m: &[u16], set: u32) -> Faults {
+    let mut f = Faults::of(s);
+    f.length(m, s.entries());
+    f.elements(s.p, m);
+    f.when(5, s.n < 32 && set >> s.n != 0);
+    f
+}
+
+/// 1 row, 2 vector, 0 neither; the buffer holds one of the kind, then zeros.
+pub fn judge_set(s: Params, m: &[u16], set: u32, position: u16, out: &mut [u16]) -> Answer {
+    let mut f = set_faults(&s, m, set);
+    f.length(out, 32);
+    f.when(5, position >= s.l);
+    if let Some(k) = f.lowest() {
+        return refused(k);
+    }
+    let q = position as usize;
+    let (kind, found) = match reconstruction_row(&s, m, set, q) {
+        Some(r) => (1, r),
+        None => match sweeping_vector(&s, m, set, q) {
+            Some(w) => (2, w),
+            None => (0, vec![]),
+        },
+    };
+    out.fill(0);
+    out[..found.len()].copy_from_slice(&found);
+    given(&[kind])
+}
+
+/// Whether what judge_set wrote is one of its kind, followed by zeros.
+pub fn is_of_kind(s: Params, m: &[u16], set: u32, position: u16, kind: u16, out: &[u16]) -> bool {
+    let (ms, d, q) = (members(set), s.d(), position as usize);
+    let width = [0, ms.len(), d][kind as usize];
+    let right = match kind {
+        1 => (0..d).all(|c| dot(s.p, out.iter().copied(), ms.iter().map(|&i| row(&s, m, i)[c])) == (c == q) as u16),
+        2 => {
+            ms.iter().all(|&i| due_from(&s, m, &out[..d], i) == 0)
+                && (0..s.l as usize).all(|c| out[c] == (c == q) as u16)
+        }
+        _ => true,
+    };
+    right && out.iter().all(|&x| x < s.p) && out[width..].iter().all(|&x| x == 0)
+}
+
+fn no_row(s: &Params, m: &[u16], set: u32) -> Option<u16> {
+    (0..s.l).find(|&q| reconstruction_row(s, m, set, q as usize).is_none())
+}
+
+pub fn determines(s: Params, m: &[u16], set: u32) -> Answer {
+    match set_faults(&s, m, set).lowest() {
+        Some(k) => refused(k),
+        None => given(&[no_row(&s, m, set).is_none() as u16]),
+    }
+}
+
+pub fn private(s: Params, m: &[u16], set: u32) -> Answer {
+    match set_faults(&s, m, set).lowest() {
+        Some(k) => refused(k),
+        None => given(&[(set.count_ones() <= s.e as u32) as u16]),
+    }
+}
+
+pub fn open(s: Params, m: &[u16], set: u32, shares: &[u16], secrets: &mut [u16]) -> Answer {
+    let mut f = set_faults(&s, m, set);
+    f.length(shares, set.count_ones() as usize);
+    f.length(secrets, s.l as usize);
+    f.elements(s.p, shares);
+    if let Some(k) = f.lowest() {
+        return refused(k);
+    }
+    if let Some(q) = no_row(&s, m, set) {
+        return Answer { number: 6, values: vec![q] };
+    }
+    let rows = members(set).iter().zip(shares).map(|(&i, &x)| row(&s, m, i).iter().copied().chain([x]).collect()).collect();
+    match solve(s.p, rows, s.d()) {
+        None => refused(7),
+        Some(v) => {
+            secrets.copy_from_slice(&v[..s.l as usize]);
+            given(&[])
+        }
+    }
+}
+
+// ---- the holder's file
+
+const SU: u16 = 0x5553;
+const DL: u16 = 0x4C44;
+const PV: u16 = 0x5650;
+const VD: u16 = 0x4456;
+
+fn word(bytes: &[u8], k: usize) -> u16 {
+    bytes[2 * k] as u16 + 256 * bytes[2 * k + 1] as u16
+}
+
+struct Holder {
+    s: Params,
+    m: Vec<u16>,
+    dealing: u16,
+    holder: u16,
+    g: Vec<u16>,
+    h: Vec<u16>,
+    values: Vec<Option<u16>>,
+    verdicts: Vec<Option<u16>>,
+}
+
+/// The refusal and the byte where the faulty record starts.
+type Fault = (u16, usize);
+
+fn read_setup(part: &[u8]) -> Result<(Params, Vec<u16>, usize), u16> {
+    if part.len() < 10 {
+        return Err(3);
+    }
+    let s = Params { p: word(part, 1), l: word(part, 2), e: word(part, 3), n: word(part, 4) };
+    if let Some(k) = Faults::of(&s).lowest() {
+        return Err(k);
+    }
+    let size = 10 + 2 * s.entries();
+    if part.len() < size {
+        return Err(3);
+    }
+    let m: Vec<u16> = (0..s.entries()).map(|k| word(part, 5 + k)).collect();
+    if m.iter().any(|&x| x >= s.p) {
+        return Err(4);
+    }
+    Ok((s, m, size))
+}
+
+fn read_file(file: &[u8]) -> Result<Holder, Fault> {
+    let mut at = 0;
+    let mut setup: Option<(Params, Vec<u16>)> = None;
+    let mut state: Option<Holder> = None;
+    while at < file.len() {
+        let part = &file[at..];
+        let fault = |k: u16| Err((k, at));
+        if part.len() < 2 {
+            return fault(3);
+        }
+        let mark = word(part, 0);
+        match (&mut setup, &mut state) {
+            (None, _) => {
+                if mark != SU {
+                    return fault(8);
+                }
+                match read_setup(part) {
+                    Err(k) => return fault(k),
+                    Ok((s, m, size)) => {
+                        setup = Some((s, m));
+                        at += size;
+                    }
+                }
+            }
+            (Some((s, m)), None) => {
+                if mark == SU {
+                    return fault(10);
+                }
+                if mark != DL {
+                    return fault(8);
+                }
+                let d = s.d();
+                let size = 6 + 4 * d;
+                if part.len() < size {
+                    return fault(3);
+                }
+                let (dealing, holder) = (word(part, 1), word(part, 2));
+                let g: Vec<u16> = (0..d).map(|k| word(part, 3 + k)).collect();
+                let h: Vec<u16> = (0..d).map(|k| word(part, 3 + d + k)).collect();
+                let mut f = Faults(vec![]);
+                f.elements(s.p, &g);
+                f.elements(s.p, &h);
+                f.when(5, holder >= s.n);
+                f.when(9, dealing == 0);
+                if let Some(k) = f.lowest() {
+                    return fault(k);
+                }
+                let n = s.n as usize;
+                state = Some(Holder { s: *s, m: m.clone(), dealing, holder, g, h, values: vec![None; n], verdicts: vec![None; n] });
+                at += size;
+            }
+            (Some(_), Some(st)) => {
+                if mark == SU || mark == DL {
+                    return fault(10);
+                }
+                if mark != PV && mark != VD {
+                    return fault(8);
+                }
+                let size = if mark == PV { 10 } else { 8 };
+                if part.len() < size {
+                    return fault(3);
+                }
+                let mut f = Faults(vec![]);
+                let from = word(part, 2);
+                f.when(5, from >= st.s.n);
+                f.when(9, word(part, 1) == 0 || word(part, 1) != st.dealing);
+                let (kept, value) = if mark == PV {
+                    let (to, value) = (word(part, 3), word(part, 4));
+                    f.when(4, value >= st.s.p);
+                    f.when(5, to >= st.s.n || to != st.holder);
+                    (&mut st.values, value)
+                } else {
+                    let verdict = word(part, 3);
+                    f.when(12, verdict > 1);
+                    (&mut st.verdicts, verdict)
+                };
+                f.when(10, (from as usize) < kept.len() && kept[from as usize].is_some());
+                if let Some(k) = f.lowest() {
+                    return fault(k);
+                }
+                kept[from as usize] = Some(value);
+                at += size;
+            }
+        }
+    }
+    match state {
+        Some(st) if st.values.iter().chain(&st.verdicts).all(|x| x.is_some()) => Ok(st),
+        _ => Err((11, file.len())),
+    }
+}
+
+/// What the holder program prints for a file of at most 4,096 bytes.
+pub fn holder(file: &[u8]) -> String {
+    let refused = |(k, at): Fault| format!("refused {k} at {at}\n");
+    let st = match read_file(file) {
+        Err(fault) => return refused(fault),
+        Ok(st) => st,
+    };
+    let values: Vec<u16> = st.values.iter().map(|v| v.unwrap()).collect();
+    let verdicts: Vec<u16> = st.verdicts.iter().map(|v| v.unwrap()).collect();
+    let judged = judgement(&st.s, &st.m, &st.h, &values);
+    if verdicts[st.holder as usize] != judged.is_none() as u16 {
+        return refused((13, file.len()));
+    }
+    let aborted = verdicts.iter().position(|&v| v == 0);
+    let mut text = format!("setup {} {} {} {}\n", st.s.p, st.s.l, st.s.e, st.s.n);
+    text += &format!("dealing {} holder {}\n", st.dealing, st.holder);
+    text += &match judged {
+        None => "verdict accept\n".to_string(),
+        Some(j) => format!("verdict reject {j}\n"),
+    };
+    match aborted {
+        Some(i) => text += &format!("outcome aborted {i}\n"),
+        None => {
+            text += "outcome kept\n";
+            for b in 0..st.s.l as usize {
+                text += &format!("share {b} {}\n", st.g[b]);
+            }
+        }
+    }
+    text
+}
