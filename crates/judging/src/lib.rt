@@ -1,12 +1,34 @@
 // Judging and combining: the open calls. Each first works out its refusal by the table of scheme's specs/Calls.antt; where there is none it works on
 // inputs that are in order.
 ghost use mathlib.Core.Path.{_≡_};
+ghost use mathlib.Core.Bool.{_&&_};
+ghost use mathlib.Core.List.{[]};
+ghost use Prim.Native.Nat.{_+_, _*_, _%_, _<_, _≤_};
+ghost use lib.Dec.{eqb};
+ghost use lib.ListN.{length, take};
 ghost use Rattle.base.specs.Rules.{refusal};
+ghost use Rattle.base.specs.Search.{first};
+ghost use Rattle.base.specs.Matrix.{entry};
+ghost use Rattle.linear.specs.Dot.{dot};
 ghost use Rattle.scheme.specs.Setup.{setupOf};
-ghost use Rattle.scheme.specs.Answers.{paperValue};
-ghost use Rattle.scheme.specs.Calls.{pairValueRules, pairValueCall};
+ghost use Rattle.scheme.specs.Answers.{paperValue, paperJudged, paperSettled, paperRehearsal};
+ghost use Rattle.scheme.specs.Dealing.{differs, saidReject, rehearse};
+ghost use Rattle.scheme.specs.Calls.{pairValueRules, pairValueCall, judgeRules, judgeCall, outcomeRules, outcomeCall, outcomeLeft, rehearseRules, rehearseCall, combineRules, combineCall};
+use scheme::Fate;
+use scheme::Judged;
+use scheme::Judgement;
 use scheme::Params;
+use scheme::Rehearsal;
+use scheme::Settled;
 use scheme::Value;
+
+// The product of row i of u and row j of v, both with d columns.
+fn rows_product(p: u16, d: usize, u: &[u16], i: usize, v: &[u16], j: usize) -> u16
+    requires { ⌜ (0 < p) × (d ≤ 65536) × (i * d + d ≤ length (now u)) × (j * d + d ≤ length (now v)) ⌝ }
+    ensures { λ r. ⌜ r ≡ dot d (entry d (now (u .entry)) i) (entry d (now (v .entry)) j) % p ⌝ }
+{
+    linear::dot_product(p, d, u, i * d, v, j * d, 1)
+}
 
 // PAIR VALUE
 fn pair_value_refusal(s: Params, matrix: &[u16], g: &[u16], to: u16) -> u16
@@ -28,7 +50,198 @@ pub fn pair_value(s: Params, matrix: &[u16], g: &[u16], to: u16) -> Value
     if refusal != 0 {
         return Value::Refused(refusal);
     }
+    let value = rows_product(s.p, scheme::dim(s), g, 0, matrix, to as usize);
+    Value::Is(value)
+}
+
+// JUDGE
+fn judge_refusal(s: Params, matrix: &[u16], h: &[u16], values: &[u16]) -> u16
+    ensures { λ r. ⌜ r ≡ refusal (judgeRules (setupOf s (now (matrix .entry))) (now (h .entry)) (now (values .entry))) ⌝ }
+{
+    let a = scheme::limits_refusal(s);
+    let b = scheme::or_size(a, matrix.len(), scheme::matrix_len(s));
+    let c = scheme::or_size(b, h.len(), scheme::dim(s));
+    let e = scheme::or_size(c, values.len(), s.n as usize);
+    let f = scheme::or_elements(e, s.p, matrix);
+    let g = scheme::or_elements(f, s.p, h);
+    scheme::or_elements(g, s.p, values)
+}
+
+// The lowest holder whose value differs from what is due, or n where none does.
+fn lowest_that_differs(s: Params, matrix: &[u16], h: &[u16], values: &[u16]) -> u16
+    requires { ⌜ refusal (judgeRules (setupOf s (now matrix)) (now h) (now values)) ≡ 0 ⌝ }
+    ensures { λ r. ⌜ r ≡ first (differs (setupOf s (now (matrix .entry))) (now (h .entry)) (now (values .entry))) (s .n) ⌝ }
+{
+    let n = s.n;
     let d = scheme::dim(s);
-    let value = linear::dot_product(s.p, d, g, 0, matrix, (to as usize) * d, 1);
+    let mut j: u16 = 0;
+    while j < n {
+        let due = rows_product(s.p, d, matrix, j as usize, h, 0);
+        if values[j as usize] != due {
+            return j;
+        }
+        j += 1;
+    }
+    j
+}
+
+// A holder's judgement of the n values it received, on its column part h.
+pub fn judge(s: Params, matrix: &[u16], h: &[u16], values: &[u16]) -> Judged
+    ensures { λ r. ⌜ paperJudged r ≡ judgeCall (setupOf s (now (matrix .entry))) (now (h .entry)) (now (values .entry)) ⌝ }
+{
+    let refusal = judge_refusal(s, matrix, h, values);
+    if refusal != 0 {
+        return Judged::Refused(refusal);
+    }
+    let n = s.n;
+    let j = lowest_that_differs(s, matrix, h, values);
+    if n <= j {
+        return Judged::As(Judgement::Accept);
+    }
+    Judged::As(Judgement::Reject(j))
+}
+
+// OUTCOME
+fn outcome_refusal(s: Params, g: &[u16], verdicts: &[u16], shares: &[u16]) -> u16
+    ensures { λ r. ⌜ r ≡ refusal (outcomeRules (setupOf s []) (now (g .entry)) (now (verdicts .entry)) (now (shares .entry))) ⌝ }
+{
+    let a = scheme::limits_refusal(s);
+    let b = scheme::or_size(a, g.len(), scheme::dim(s));
+    let c = scheme::or_size(b, verdicts.len(), s.n as usize);
+    let e = scheme::or_size(c, shares.len(), s.l as usize);
+    let f = scheme::or_elements(e, s.p, g);
+    base::or_when(f, 12, !base::all_below(verdicts, 2))
+}
+
+// The lowest of n holders that said reject, or n where none did.
+fn lowest_reject(n: u16, verdicts: &[u16]) -> u16
+    requires { ⌜ n ≤ length (now verdicts) ⌝ }
+    ensures { λ r. ⌜ r ≡ first (saidReject (now (verdicts .entry))) n ⌝ }
+{
+    let mut i: u16 = 0;
+    while i < n {
+        if verdicts[i as usize] != 1 {
+            return i;
+        }
+        i += 1;
+    }
+    i
+}
+
+// The first entries of g, as many as there are shares.
+fn keep_shares(g: &[u16], shares: &mut [u16])
+    requires { ⌜ length (now shares) ≤ length (now g) ⌝ }
+    ensures { λ r. ⌜ now (shares .exit) ≡ take (length (now (shares .entry))) (now (g .entry)) ⌝ }
+{
+    let len = shares.len();
+    let mut b = 0;
+    while b < len {
+        shares[b] = g[b];
+        b += 1;
+    }
+}
+
+// The outcome from the n verdicts received; where the dealing is kept, the first ℓ entries of the row part g are the shares.
+pub fn outcome(s: Params, g: &[u16], verdicts: &[u16], shares: &mut [u16]) -> Settled
+    ensures answer { λ r. ⌜ paperSettled r ≡ outcomeCall (setupOf s []) (now (g .entry)) (now (verdicts .entry)) (now (shares .entry)) ⌝ }
+    ensures left { λ r. ⌜ now (shares .exit) ≡ outcomeLeft (setupOf s []) (now (g .entry)) (now (verdicts .entry)) (now (shares .entry)) ⌝ }
+{
+    let refusal = outcome_refusal(s, g, verdicts, shares);
+    if refusal != 0 {
+        return Settled::Refused(refusal);
+    }
+    let n = s.n;
+    let i = lowest_reject(n, verdicts);
+    if i < n {
+        return Settled::As(Fate::Aborted(i));
+    }
+    keep_shares(g, shares);
+    Settled::As(Fate::Kept)
+}
+
+// REHEARSE
+fn rehearse_refusal(s: Params, matrix: &[u16], gs: &[u16], hs: &[u16]) -> u16
+    ensures { λ r. ⌜ r ≡ refusal (rehearseRules (setupOf s (now (matrix .entry))) (now (gs .entry)) (now (hs .entry))) ⌝ }
+{
+    let len = scheme::matrix_len(s);
+    let a = scheme::limits_refusal(s);
+    let b = scheme::or_size(a, matrix.len(), len);
+    let c = scheme::or_size(b, gs.len(), len);
+    let e = scheme::or_size(c, hs.len(), len);
+    let f = scheme::or_elements(e, s.p, matrix);
+    let g = scheme::or_elements(f, s.p, gs);
+    scheme::or_elements(g, s.p, hs)
+}
+
+// The first pair (i, j), by i and then by j, at which what j sends to i and what is due differ; own pairs too.
+fn first_pair(s: Params, matrix: &[u16], gs: &[u16], hs: &[u16]) -> Rehearsal
+    requires { ⌜ refusal (rehearseRules (setupOf s (now matrix)) (now gs) (now hs)) ≡ 0 ⌝ }
+    ensures { λ r. ⌜ paperRehearsal r ≡ rehearse (setupOf s (now (matrix .entry))) (now (gs .entry)) (now (hs .entry)) ⌝ }
+{
+    let n = s.n;
+    let d = scheme::dim(s);
+    let mut i: u16 = 0;
+    let mut j: u16 = 0;
+    'holders: while i < n {
+        j = 0;
+        while j < n {
+            let sent = rows_product(s.p, d, gs, j as usize, matrix, i as usize);
+            let due = rows_product(s.p, d, matrix, j as usize, hs, i as usize);
+            if sent != due {
+                break 'holders;
+            }
+            j += 1;
+        }
+        i += 1;
+    }
+    if i < n {
+        return Rehearsal::Disagree(i, j);
+    }
+    Rehearsal::Fair
+}
+
+// The dealer's rehearsal on all n parts.
+pub fn rehearse(s: Params, matrix: &[u16], gs: &[u16], hs: &[u16]) -> Rehearsal
+    ensures { λ r. ⌜ paperRehearsal r ≡ rehearseCall (setupOf s (now (matrix .entry))) (now (gs .entry)) (now (hs .entry)) ⌝ }
+{
+    let refusal = rehearse_refusal(s, matrix, gs, hs);
+    if refusal != 0 {
+        return Rehearsal::Refused(refusal);
+    }
+    first_pair(s, matrix, gs, hs)
+}
+
+// COMBINE
+fn both_empty(constants: &[u16], shares: &[u16]) -> bool
+    ensures { λ r. ⌜ r ≡ (eqb (length (now (constants .entry))) 0 && eqb (length (now (shares .entry))) 0) ⌝ }
+{
+    if constants.len() == 0 {
+        return shares.len() == 0;
+    }
+    false
+}
+
+fn combine_refusal(p: u16, constants: &[u16], shares: &[u16]) -> u16
+    ensures { λ r. ⌜ r ≡ refusal (combineRules p (now (constants .entry)) (now (shares .entry))) ⌝ }
+{
+    let many = 64 < constants.len();
+    let empty = both_empty(constants, shares);
+    let a = base::or_when(0, 1, field::no_field(p));
+    let b = scheme::or_size(a, shares.len(), constants.len());
+    let c = base::or_when(b, 3, many);
+    let e = scheme::or_elements(c, p, constants);
+    let f = scheme::or_elements(e, p, shares);
+    base::or_when(f, 14, empty)
+}
+
+// The sum of the products of constants and one holder's shares.
+pub fn combine(p: u16, constants: &[u16], shares: &[u16]) -> Value
+    ensures { λ r. ⌜ paperValue r ≡ combineCall p (now (constants .entry)) (now (shares .entry)) ⌝ }
+{
+    let refusal = combine_refusal(p, constants, shares);
+    if refusal != 0 {
+        return Value::Refused(refusal);
+    }
+    let value = linear::dot_product(p, constants.len(), constants, 0, shares, 0, 1);
     Value::Is(value)
 }

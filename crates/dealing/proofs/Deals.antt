@@ -1,0 +1,76 @@
+-- Dealing to all is n single deals: each of them is accepted, and entry b of its g is entry i * d + b of all the g, and so of the h.
+use Prim.Native.Nat.{ℕ, _+_, _*_, _<_}
+use mathlib.Core.Path.{_≡_, sym, _∙_}
+use mathlib.Core.List.{List}
+use borrow.Author.Tests.{lt-leb}
+use lib.ListN.{length}
+use Rattle.base.specs.Rules.{refusal}
+use Rattle.base.specs.Fill.{tab}
+use Rattle.base.specs.Matrix.{flat}
+use Rattle.base.proofs.Rules.{none-applies}
+use Rattle.base.proofs.Fill.{getD-tab, flat-at}
+use Rattle.base.proofs.Matrix.{entry-fits}
+use Rattle.linear.specs.Dot.{at}
+use Rattle.scheme.specs.Setup.{Setup, dim}
+use Rattle.scheme.specs.Dealing.{dealt, partG, partH}
+use Rattle.scheme.specs.Calls.{dealRules, dealLeftG, dealLeftH, dealAllRules, dealAllLeftG, dealAllLeftH}
+use Rattle.scheme.proofs.Calls.{size-clear, elements-clear, limits-clear, DealOk, dealAll-ok}
+
+-- inputs in order, and room for the holder's part
+pub deal-accepts : (S : Setup) (secrets random : List ℕ) (i : ℕ) (g h : List ℕ) → DealOk S secrets random → length g ≡ dim S → length h ≡ dim S → i < S .n
+    → refusal (dealRules S secrets random i g h) ≡ 0
+deal-accepts S secrets random i g h k a b l =
+    let L = limits-clear S (k .setup .limits) in
+    none-applies (dealRules S secrets random i g h) (
+      L .field,
+      (
+        L .secret,
+        (
+          L .random,
+          (
+            L .holders,
+            (
+              size-clear (S .M) _ (k .setup .matrix .size),
+              (
+                size-clear secrets _ (k .vectors .size),
+                (
+                  size-clear random _ (k .entries .size),
+                  (
+                    size-clear g _ a,
+                    (
+                      size-clear h _ b,
+                      (
+                        elements-clear (S .p) _ (S .M) (k .setup .matrix),
+                        (
+                          elements-clear (S .p) _ secrets (k .vectors),
+                          (elements-clear (S .p) _ random (k .entries), (lt-leb (S .n) i l, tt)),
+                        ),
+                      ),
+                    ),
+                  ),
+                ),
+              ),
+            ),
+          ),
+        ),
+      ),
+    )
+
+-- the single deal to holder i, into a g and an h of d entries
+pub record Single (S : Setup) (secrets random gs hs : List ℕ) (i : ℕ) (g h : List ℕ) : Type 0 where
+  pub accepted : refusal (dealRules S secrets random i g h) ≡ 0
+  pub row : (b : ℕ) → b < dim S → at (dealAllLeftG S secrets random gs hs) (i * dim S + b) ≡ at (dealLeftG S secrets random i g h) b
+  pub column : (b : ℕ) → b < dim S → at (dealAllLeftH S secrets random gs hs) (i * dim S + b) ≡ at (dealLeftH S secrets random i g h) b
+
+pub all-single : (S : Setup) (secrets random gs hs : List ℕ) → refusal (dealAllRules S secrets random gs hs) ≡ 0
+    → (i : ℕ) → i < S .n → (g h : List ℕ) → length g ≡ dim S → length h ≡ dim S → Single S secrets random gs hs i g h
+all-single S secrets random gs hs z i l g h a b =
+    let y = deal-accepts S secrets random i g h (dealAll-ok S secrets random gs hs z .0) a b l in
+    record {
+      accepted = y;
+      row = λ b m. rw (z, y) (part (partG S (dealt S secrets random)) b m);
+      column = λ b m. rw (z, y) (part (partH S (dealt S secrets random)) b m);
+    }
+  where
+    part : (f : ℕ → List ℕ) (b : ℕ) → b < dim S → at (tab (S .n * dim S) (flat (dim S) (λ i. at (f i)))) (i * dim S + b) ≡ at (f i) b
+    part f b m = getD-tab (S .n * dim S) _ 0 _ (entry-fits (S .n) (dim S) i b l m) ∙ sym (flat-at (dim S) (λ i. at (f i)) i b m)

@@ -1,0 +1,123 @@
+-- The laws of a dealing's parts: what the code's products are, where F's entries lie, and that the parts are scheme's.
+use Prim.Native.Nat.{ℕ, _+_, _-_, _*_, _/_, _%_, _≤_, _<_}
+use mathlib.Core.Path.{_≡_, refl, sym, ap, _∙_}
+use mathlib.Core.List.{List}
+use native.Mathlib.Nat.{mul-le-mul, div-add-mod', add-assoc}
+use native.Mathlib.Omega.{arith}
+use borrow.Author.Tests.{lt-ltb, le-ltb}
+use lib.ListN.{length, getD}
+use Rattle.base.specs.Fill.{tab, filled}
+use Rattle.base.specs.Matrix.{entry, flat}
+use Rattle.base.proofs.Fill.{getD-tab, tab-ext, getD-filled, flat-at}
+use Rattle.base.proofs.Matrix.{row-fits, entry-fits}
+use Rattle.linear.specs.Dot.{at, dot, along}
+use Rattle.linear.proofs.Dot.{dot-ext, dot-same}
+use Rattle.scheme.specs.Setup.{Setup, dim, row}
+use Rattle.scheme.specs.Dealing.{place, dealtEntry, dealt, partG, partH}
+use Rattle.dealing.specs.Put.{put}
+use Rattle.dealing.specs.Parts.{entryG, entryH, sized}
+use Rattle.dealing.proofs.Put.{put-filled, put-all, filled-all}
+use Rattle.dealing.proofs.Grid.{place-at}
+
+-- F and its rows lie in the array
+pub square-fits : (d : ℕ) → d ≤ 16 → d * d ≤ 256
+square-fits d h = mul-le-mul {n₁ = d} {m₁ = d} {n₂ = 16} {m₂ = 16} h h
+
+pub square-row : (d k : ℕ) → d ≤ 16 → k < d → k * d + d ≤ 256
+square-row d k h l = omega (arith, row-fits d d k l, square-fits d h)
+
+-- an entry of g runs along row i of the matrix and column b of F, an entry of h along row k of F and row i
+module _ (p d : ℕ) (m F : List ℕ) (i : ℕ) where
+  pub product-g : (b : ℕ) → dot d (along m (i * d) 1) (along F b d) % p ≡ entryG p d m F i b
+  unfolding entryG
+  product-g b = ap (λ z. z % p) (dot-same d _ _ _ _ (λ k l. ap (λ t. getD m t 0) (omega arith)) (λ k l. ap (λ t. getD F t 0) (omega arith)))
+
+  pub product-h : (k : ℕ) → dot d (along F (k * d) 1) (along m (i * d) 1) % p ≡ entryH p d m F i k
+  unfolding entryH
+  product-h k = ap (λ z. z % p) (dot-same d _ _ _ _ (λ b l. ap (λ t. getD F t 0) (omega arith)) (λ b l. ap (λ t. getD m t 0) (omega arith)))
+
+-- F by rows: secrets and e random entries in a row below ℓ, then random entries alone
+module _ (l e : ℕ) (secrets random : List ℕ) where
+  of-secrets : (k b : ℕ) → k < l → b < l → along secrets k l b ≡ dealtEntry (sized l e) secrets random k b
+  unfolding dealtEntry
+  of-secrets k b h m = rw (lt-ltb k l h, lt-ltb b l m) (ap (λ t. getD secrets t 0) (omega arith))
+
+  of-random : (k j : ℕ) → k < l → along random (k * e) 1 j ≡ dealtEntry (sized l e) secrets random k (l + j)
+  unfolding dealtEntry place
+  of-random k j h = rw (lt-ltb k l h, le-ltb (l + j) l (omega arith)) (ap (λ t. getD random t 0) (omega arith))
+
+  of-rest : (q r : ℕ) → along random (l * e) 1 (q * (l + e) + r) ≡ dealtEntry (sized l e) secrets random (l + q) r
+  unfolding dealtEntry place
+  of-rest q r =
+      let h : l + q - l ≡ q = omega arith in
+      rw (le-ltb (l + q) l (omega arith), h) (ap (λ t. getD random t 0) (omega arith))
+
+  module _ (x f : List ℕ) where
+    abbrev F : ℕ → ℕ
+    F = flat (l + e) (dealtEntry (sized l e) secrets random)
+
+    pub row-begun : (k : ℕ) → k < l → f ≡ filled F (k * (l + e)) x → put (along secrets k l) (k * (l + e)) l f ≡ filled F (k * (l + e) + l) x
+    row-begun k h s =
+        put-filled _ F _ l x f s (λ b m. of-secrets k b h m ∙ flat-at (l + e) (dealtEntry (sized l e) secrets random) k b (omega arith))
+
+    pub row-ended : (k : ℕ) → k < l → f ≡ filled F (k * (l + e) + l) x → put (along random (k * e) 1) (k * (l + e) + l) e f ≡ filled F ((k + 1) * (l + e)) x
+    row-ended k h s =
+        put-filled _ F _ e x f s
+        (λ j m. of-random k j h ∙ flat-at (l + e) (dealtEntry (sized l e) secrets random) k (l + j) (omega arith) ∙ ap F (sym (add-assoc (k * (l + e)) l j)))
+        ∙ ap (λ n. filled F n x) (omega arith)
+
+    pub rest-ended : f ≡ filled F (l * (l + e)) x → put (along random (l * e) 1) (l * (l + e)) (e * (l + e)) f ≡ filled F ((l + e) * (l + e)) x
+    rest-ended s =
+        put-filled _ F _ (e * (l + e)) x f s (λ t m. place′ t (place-at (l + e) e t m))
+        ∙ ap (λ n. filled F n x) (omega arith)
+      where
+        place′ : (t : ℕ) → (0 < l + e) × (t / (l + e) < e) × (t % (l + e) < l + e) → along random (l * e) 1 t ≡ F (l * (l + e) + t)
+        place′ t w =
+            let q = t / (l + e) in
+            let r = t % (l + e) in
+            let s : q * (l + e) + r ≡ t = div-add-mod' t (l + e) in
+            ap (along random (l * e) 1) (sym s) ∙ of-rest q r ∙ flat-at (l + e) (dealtEntry (sized l e) secrets random) (l + q) r (w .2)
+            ∙ ap F (omega (arith, s))
+
+-- an array that holds F gives scheme's parts
+module _
+    (S : Setup) (secrets random z F : List ℕ) (small : dim S ≤ 16) (long : length z ≡ 256)
+    (is : F ≡ filled (flat (dim S) (dealtEntry (sized (S .l) (S .e)) secrets random)) (dim S * dim S) z)
+  where
+    same : (k b : ℕ) → k < dim S → b < dim S → entry (dim S) F k b ≡ entry (dim S) (dealt S secrets random) k b
+    unfolding dealt dealtEntry place
+    same k b h m =
+        let w = entry-fits (dim S) (dim S) k b h m in
+        ap (λ l. entry (dim S) l k b) is
+        ∙ getD-filled _ (dim S * dim S) z _ 0 w (omega (arith, square-fits (dim S) small))
+        ∙ sym (getD-tab (dim S * dim S) _ 0 _ w)
+
+    entry-g : (i b : ℕ) → b < dim S → entryG (S .p) (dim S) (S .M) F i b ≡ dot (dim S) (row S i) (λ k. entry (dim S) (dealt S secrets random) k b) % S .p
+    unfolding entryG
+    entry-g i b m = ap (λ n. n % S .p) (dot-ext (dim S) (row S i) _ _ (λ k h. same k b h m))
+
+    entry-h : (i k : ℕ) → k < dim S → entryH (S .p) (dim S) (S .M) F i k ≡ dot (dim S) (λ b. entry (dim S) (dealt S secrets random) k b) (row S i) % S .p
+    unfolding entryH
+    entry-h i k h = ap (λ n. n % S .p) (dot-same (dim S) _ _ _ _ (λ b m. same k b h m) (λ b m. refl))
+
+    pub deal-g : (i : ℕ) (g : List ℕ) → length g ≡ dim S → put (entryG (S .p) (dim S) (S .M) F i) 0 (dim S) g ≡ partG S (dealt S secrets random) i
+    unfolding partG
+    deal-g i g e = put-all _ _ (dim S) g e (entry-g i)
+
+    pub deal-h : (i : ℕ) (h : List ℕ) → length h ≡ dim S → put (entryH (S .p) (dim S) (S .M) F i) 0 (dim S) h ≡ partH S (dealt S secrets random) i
+    unfolding partH
+    deal-h i h e = put-all _ _ (dim S) h e (entry-h i)
+
+    pub all-g : (gs : List ℕ) → length gs ≡ S .n * dim S
+        → filled (flat (dim S) (entryG (S .p) (dim S) (S .M) F)) (S .n * dim S) gs ≡ tab (S .n * dim S) (flat (dim S) (λ i. at (partG S (dealt S secrets random) i)))
+    unfolding partG
+    all-g gs e =
+        filled-all _ _ gs e
+        ∙ tab-ext _ _ _ (λ t m. let w = place-at (dim S) (S .n) t m in entry-g _ _ (w .2) ∙ sym (getD-tab (dim S) _ 0 _ (w .2)))
+
+    pub all-h : (hs : List ℕ) → length hs ≡ S .n * dim S
+        → filled (flat (dim S) (entryH (S .p) (dim S) (S .M) F)) (S .n * dim S) hs ≡ tab (S .n * dim S) (flat (dim S) (λ i. at (partH S (dealt S secrets random) i)))
+    unfolding partH
+    all-h hs e =
+        filled-all _ _ hs e
+        ∙ tab-ext _ _ _ (λ t m. let w = place-at (dim S) (S .n) t m in entry-h _ _ (w .2) ∙ sym (getD-tab (dim S) _ 0 _ (w .2)))

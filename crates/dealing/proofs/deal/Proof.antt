@@ -1,0 +1,126 @@
+-- Where nothing is refused, the array holds F, and the holder's two parts are written whole.
+use Prim.Native.Nat.{_+_, _≤_}
+use mathlib.Core.Path.{refl, sym, ap, _∙_}
+use native.Mathlib.Omega.{arith}
+use borrow.Author.Needs.{needs}
+use lib.ListN.{length}
+use Rattle.base.proofs.Fill.{length-filled}
+use Rattle.base.proofs.Matrix.{row-fits}
+use Rattle.scheme.specs.Setup.{setupOf}
+use Rattle.scheme.proofs.Calls.{declined, unchanged, deal-ok, limits-pos}
+use Rattle.dealing.proofs.Parts.{deal-g, deal-h}
+use Rattle.dealing.proofs.deal.Statement.{statement}
+use Rattle.dealing.proofs.deal.Tie as tie
+
+deal-refusal-requires : tie.Need-deal-refusal-requires
+deal-refusal-requires c κs = search needs
+
+same-length : tie.Need-same-length
+same-length c = search needs
+
+same-length-2 : tie.Need-same-length-2
+same-length-2 c = search needs
+
+returns : tie.Need-returns
+returns c =
+    rw (← c .before .deal-refusal .ensures) (declined _ _ (c .if1 .taken), (unchanged _ _ _ (c .if1 .taken), unchanged _ _ _ (c .if1 .taken)))
+
+dim-requires : tie.Need-dim-requires
+dim-requires c κs = search needs
+
+slice-aggregate-fill-dealt : tie.Need-slice-aggregate-fill-dealt
+slice-aggregate-fill-dealt c = search needs
+
+fill-dealt-requires : tie.Need-fill-dealt-requires
+fill-dealt-requires c κs =
+    let e = c .before .before in
+    let x = e .before .before .before .before .before .before .before .before .before .args in
+    let z = sym (e .before .deal-refusal .ensures) ∙ e .if1 .left in
+    let ok = deal-ok (setupOf (x .s) (x .matrix .now)) (x .secrets .now) (x .random .now) (x .holder) (x .g .now) (x .h .now) z in
+    record {
+      small = (ok .0 .setup .limits .secret .1, ok .0 .setup .limits .random .1);
+      vectors = ok .0 .vectors .size;
+      entries = ok .0 .entries .size;
+      square = refl;
+    }
+
+slice-aggregate-write-g : tie.Need-slice-aggregate-write-g
+slice-aggregate-write-g c = search needs
+
+write-g-requires : tie.Need-write-g-requires
+write-g-requires c κs =
+    let e = c .before .before .before .before .before .before in
+    let x = e .before .before .before .before .before .before .before .before .before .args in
+    let z = sym (e .before .deal-refusal .ensures) ∙ e .if1 .left in
+    let ok = deal-ok (setupOf (x .s) (x .matrix .now)) (x .secrets .now) (x .random .now) (x .holder) (x .g .now) (x .h .now) z in
+    let d = c .before .before .before .before .before .dim .ensures .0 in
+    let w = row-fits (x .s .n) (x .s .l + x .s .e) (x .holder) (ok .3) in
+    record {
+      above = limits-pos _ (ok .0 .setup .limits);
+      small = omega (arith, ok .0 .setup .limits .secret, ok .0 .setup .limits .random, d);
+      row = rw d (omega (arith, w, ok .0 .setup .matrix .size));
+      square = ap length (c .before .before .before .fill-dealt .ensures) ∙ length-filled _ _ _;
+      fits = omega (arith, ok .1, d);
+    }
+
+slice-aggregate-write-h : tie.Need-slice-aggregate-write-h
+slice-aggregate-write-h c = search needs
+
+write-h-requires : tie.Need-write-h-requires
+write-h-requires c κs =
+    let e = c .before .before .before .before .before .before .before .before .before .before .before in
+    let x = e .before .before .before .before .before .before .before .before .before .args in
+    let z = sym (e .before .deal-refusal .ensures) ∙ e .if1 .left in
+    let ok = deal-ok (setupOf (x .s) (x .matrix .now)) (x .secrets .now) (x .random .now) (x .holder) (x .g .now) (x .h .now) z in
+    let d = c .before .before .before .before .before .before .before .before .before .before .dim .ensures .0 in
+    let w = row-fits (x .s .n) (x .s .l + x .s .e) (x .holder) (ok .3) in
+    record {
+      above = limits-pos _ (ok .0 .setup .limits);
+      small = omega (arith, ok .0 .setup .limits .secret, ok .0 .setup .limits .random, d);
+      row = rw d (omega (arith, w, ok .0 .setup .matrix .size));
+      square = ap length (c .before .before .before .before .before .before .before .before .fill-dealt .ensures) ∙ length-filled _ _ _;
+      fits = omega (arith, ok .2, d);
+    }
+
+same-length-3 : tie.Need-same-length-3
+same-length-3 c = search needs
+
+same-length-4 : tie.Need-same-length-4
+same-length-4 c = search needs
+
+returns-2 : tie.Need-returns-2
+returns-2 c =
+    let e = c .before .before .before .before .before .before .before .before .before .before .before .before .before .before in
+    let x = e .before .before .before .before .before .before .before .before .before .args in
+    let z = sym (e .before .deal-refusal .ensures) ∙ e .if1 .left in
+    let ok = deal-ok (setupOf (x .s) (x .matrix .now)) (x .secrets .now) (x .random .now) (x .holder) (x .g .now) (x .h .now) z in
+    let d = c .before .before .before .before .before .before .before .before .before .before .before .before .before .dim .ensures .0 in
+    let few : x .s .l + x .s .e ≤ 16 = omega (arith, ok .0 .setup .limits .secret, ok .0 .setup .limits .random) in
+    let S = setupOf (x .s) (x .matrix .now) in
+    let F = c .before .before .before .before .before .before .before .before .before .before .before .fill-dealt .ensures in
+    rw z (
+      refl,
+      (
+        rw d at (c .before .before .before .before .before .before .before .write-g .ensures) ∙ deal-g S _ _ _ _ few refl F (x .holder) (x .g .now) (ok .1),
+        rw d at (c .before .before .write-h .ensures) ∙ deal-h S _ _ _ _ few refl F (x .holder) (x .h .now) (ok .2),
+      ),
+    )
+
+pub deal-spec : {M : Type 1} → statement M
+deal-spec =
+    tie.close
+    (tie.spec
+    deal-refusal-requires
+    same-length
+    same-length-2
+    returns
+    dim-requires
+    slice-aggregate-fill-dealt
+    fill-dealt-requires
+    slice-aggregate-write-g
+    write-g-requires
+    slice-aggregate-write-h
+    write-h-requires
+    same-length-3
+    same-length-4
+    returns-2)

@@ -1,0 +1,318 @@
+// The points matrix and dealing: the open calls. Each first works out its refusal by the table of scheme's specs/Calls.antt; where there is none it
+// works on inputs that are in order. The work neither branches on nor indexes by a secret or a random entry.
+ghost use mathlib.Core.Path.{_≡_};
+ghost use Prim.Native.Nat.{ℕ, _+_, _-_, _*_, _%_, _<_, _≤_};
+ghost use lib.Dec.{eqb};
+ghost use lib.ListN.{length};
+ghost use Rattle.base.specs.Choice.{pick};
+ghost use Rattle.base.specs.Rules.{refusal, refusalFrom};
+ghost use Rattle.base.specs.Fill.{filled};
+ghost use Rattle.base.specs.Matrix.{flat};
+ghost use Rattle.field.specs.Prime.{Prime};
+ghost use Rattle.linear.specs.Dot.{along};
+ghost use Rattle.linear.specs.Polynomial.{minus, basis, point};
+ghost use Rattle.scheme.specs.Setup.{setupOf};
+ghost use Rattle.scheme.specs.Answers.{paperWritten};
+ghost use Rattle.scheme.specs.Dealing.{dealtEntry};
+ghost use Rattle.scheme.specs.Calls.{pointsRules, pointsCall, pointsLeft, dealInputs, dealElements, dealRules, dealCall, dealLeftG, dealLeftH, dealAllRules, dealAllCall, dealAllLeftG, dealAllLeftH};
+ghost use Rattle.dealing.specs.Put.{put};
+ghost use Rattle.dealing.specs.Grid.{pointsRow, pointsRows};
+ghost use Rattle.dealing.specs.Parts.{entryG, entryH, sized, DealtRoom, PartRoom};
+use scheme::Params;
+use scheme::Written;
+
+// POINTS
+// One factor of a basis at x: x - t modulo p, and 1 for the node j that is left out.
+fn factor(p: u16, j: usize, x: usize, t: usize) -> u16
+    requires { ⌜ (1 < p) × (x ≤ 65535) × (t ≤ 65535) ⌝ }
+    ensures { λ r. ⌜ r ≡ pick (eqb t j) 1 (minus p x t) % p ⌝ }
+{
+    if t == j {
+        return 1;
+    }
+    field::residue(p, (x + (p as usize - 1) * t) as u64)
+}
+
+// The basis of node j at x over the nodes 0 to d - 1, reduced after each factor.
+fn basis_at(p: u16, d: usize, j: usize, x: usize) -> u16
+    requires { ⌜ (1 < p) × (d ≤ 16) × (x ≤ 65535) ⌝ }
+    ensures { λ r. ⌜ r ≡ basis p d j (λ t. t) x % p ⌝ }
+{
+    let mut acc: u16 = 1;
+    let mut t = 0;
+    while t < d {
+        acc = field::product(p, acc, factor(p, j, x, t));
+        t += 1;
+    }
+    acc
+}
+
+// Entry j of row i of the points matrix.
+fn point(p: u16, d: usize, i: usize, j: usize) -> u16
+    requires { ⌜ (d ≤ 16) × (i ≤ 32) × (j ≤ 16) ⌝ }
+    requires { ⌜ Prime p ⌝ }
+    ensures { λ r. ⌜ r ≡ point p d i j ⌝ }
+{
+    let inverse = field::inverse(p, basis_at(p, d, j, j));
+    field::product(p, inverse, basis_at(p, d, j, d + i))
+}
+
+// Row i of the points matrix: d entries, then zeros.
+fn row(p: u16, d: usize, i: usize) -> [u16; 16]
+    requires { ⌜ (d ≤ 16) × (i ≤ 32) ⌝ }
+    requires { ⌜ Prime p ⌝ }
+    ensures { λ r. ⌜ r ≡ pointsRow p d i ⌝ }
+{
+    let mut entries = [0u16; 16];
+    let mut j = 0;
+    while j < d {
+        entries[j] = point(p, d, i, j);
+        j += 1;
+    }
+    entries
+}
+
+// The n rows of the points matrix.
+fn points_rows(p: u16, d: usize, n: usize) -> [[u16; 16]; 32]
+    requires { ⌜ (d ≤ 16) × (n ≤ 32) ⌝ }
+    requires { ⌜ Prime p ⌝ }
+    ensures { λ r. ⌜ r ≡ pointsRows p d n ⌝ }
+{
+    let mut rows = [[0u16; 16]; 32];
+    let mut i = 0;
+    while i < n {
+        rows[i] = row(p, d, i);
+        i += 1;
+    }
+    rows
+}
+
+// The points matrix, by rows, into the lent matrix.
+fn write_points(p: u16, d: usize, n: usize, matrix: &mut [u16])
+    requires { ⌜ (d ≤ 16) × (n ≤ 32) × (length (now matrix) ≡ n * d) ⌝ }
+    requires { ⌜ Prime p ⌝ }
+    ensures { λ _. ⌜ now (matrix .exit) ≡ filled (flat d (point p d)) (n * d) (now (matrix .entry)) ⌝ }
+{
+    let rows = points_rows(p, d, n);
+    let mut t = 0;
+    while t < matrix.len() {
+        matrix[t] = rows[t / d][t % d];
+        t += 1;
+    }
+}
+
+fn points_refusal(s: Params, matrix: &[u16]) -> u16
+    ensures { λ r. ⌜ r ≡ refusal (pointsRules (setupOf s (now (matrix .entry)))) ⌝ }
+{
+    let a = scheme::limits_refusal(s);
+    let b = scheme::or_size(a, matrix.len(), scheme::matrix_len(s));
+    base::or_when(b, 15, (s.p as usize) < scheme::dim(s) + (s.n as usize))
+}
+
+// The points matrix into the lent matrix.
+pub fn points(s: Params, matrix: &mut [u16]) -> Written
+    ensures { λ r. ⌜ paperWritten r ≡ pointsCall (setupOf s (now (matrix .entry))) ⌝ }
+    ensures { λ _. ⌜ now (matrix .exit) ≡ pointsLeft (setupOf s (now (matrix .entry))) ⌝ }
+{
+    let refusal = points_refusal(s, matrix);
+    if refusal != 0 {
+        return Written::Refused(refusal);
+    }
+    write_points(s.p, scheme::dim(s), s.n as usize, matrix);
+    Written::Done
+}
+
+// F
+// `count` entries of `from`, `step` apart from place `start` on, into `out` from place `at` on.
+fn copy(from: &[u16], start: usize, step: usize, count: usize, out: &mut [u16], at: usize)
+    requires { ⌜ at + count ≤ length (now out) ⌝ }
+    requires { ⌜ ((k : ℕ) → k < count → start + k * step < length (now from)) ⌝ }
+    ensures { λ _. ⌜ now (out .exit) ≡ put (along (now (from .entry)) start step) at count (now (out .entry)) ⌝ }
+{
+    let mut k = 0;
+    while k < count {
+        out[at + k] = from[start + k * step];
+        k += 1;
+    }
+}
+
+// F by rows, into the first d * d places of f: each row below ℓ is position k of every secret vector and then e random entries; the rows below it
+// are the random entries that are left.
+fn fill_dealt(s: Params, secrets: &[u16], random: &[u16], f: &mut [u16])
+    requires { ⌜ DealtRoom (s .l) (s .e) (now secrets) (now random) (now f) ⌝ }
+    ensures { λ _. ⌜ now (f .exit) ≡ filled (flat (s .l + s .e) (dealtEntry (sized (s .l) (s .e)) (now (secrets .entry)) (now (random .entry)))) ((s .l + s .e) * (s .l + s .e)) (now (f .entry)) ⌝ }
+{
+    let l = s.l as usize;
+    let e = s.e as usize;
+    let d = l + e;
+    let mut k = 0;
+    while k < l {
+        copy(secrets, k, l, l, f, k * d);
+        copy(random, k * e, 1, e, f, k * d + l);
+        k += 1;
+    }
+    copy(random, l * e, 1, e * d, f, l * d);
+}
+
+// PARTS
+// Holder i's g = m_i F, into `out` from place `at` on.
+fn write_g(p: u16, d: usize, matrix: &[u16], f: &[u16], i: usize, out: &mut [u16], at: usize)
+    requires { ⌜ PartRoom p d (now matrix) (now f) i at (now out) ⌝ }
+    ensures { λ _. ⌜ now (out .exit) ≡ put (entryG p d (now (matrix .entry)) (now (f .entry)) i) at d (now (out .entry)) ⌝ }
+{
+    let mut b = 0;
+    while b < d {
+        out[at + b] = linear::dot_product(p, d, matrix, i * d, f, b, d);
+        b += 1;
+    }
+}
+
+// Holder i's h = F m_i, into `out` from place `at` on.
+fn write_h(p: u16, d: usize, matrix: &[u16], f: &[u16], i: usize, out: &mut [u16], at: usize)
+    requires { ⌜ PartRoom p d (now matrix) (now f) i at (now out) ⌝ }
+    ensures { λ _. ⌜ now (out .exit) ≡ put (entryH p d (now (matrix .entry)) (now (f .entry)) i) at d (now (out .entry)) ⌝ }
+{
+    let mut k = 0;
+    while k < d {
+        out[at + k] = linear::dot_product(p, d, f, k * d, matrix, i * d, 1);
+        k += 1;
+    }
+}
+
+// Every holder's part, one after the other.
+fn write_parts(
+    p: u16,
+    d: usize,
+    n: usize,
+    matrix: &[u16],
+    f: &[u16],
+    gs: &mut [u16],
+    hs: &mut [u16],
+)
+    requires { ⌜ (0 < p) × (d ≤ 16) × (length (now matrix) ≡ n * d) × (length (now f) ≡ 256) × (length (now gs) ≡ n * d) × (length (now hs) ≡ n * d) ⌝ }
+    ensures { λ _. ⌜ now (gs .exit) ≡ filled (flat d (entryG p d (now (matrix .entry)) (now (f .entry)))) (n * d) (now (gs .entry)) ⌝ }
+    ensures { λ _. ⌜ now (hs .exit) ≡ filled (flat d (entryH p d (now (matrix .entry)) (now (f .entry)))) (n * d) (now (hs .entry)) ⌝ }
+{
+    let mut i = 0;
+    while i < n {
+        write_g(p, d, matrix, f, i, gs, i * d);
+        write_h(p, d, matrix, f, i, hs, i * d);
+        i += 1;
+    }
+}
+
+// DEAL
+// The length of the random entries: d * d - ℓ * ℓ.
+fn random_len(s: Params) -> usize
+    ensures { λ r. ⌜ r ≡ (s .l + s .e) * (s .l + s .e) - s .l * s .l ⌝ }
+{
+    let l = s.l as usize;
+    let d = scheme::dim(s);
+    d * d - l * l
+}
+
+// Refusals 1 to 3 of what both calls take.
+fn inputs_refusal(s: Params, matrix: &[u16], secrets: &[u16], random: &[u16]) -> u16
+    ensures { λ r. ⌜ r ≡ refusal (dealInputs (setupOf s (now (matrix .entry))) (now (secrets .entry)) (now (random .entry))) ⌝ }
+{
+    let l = s.l as usize;
+    let a = scheme::limits_refusal(s);
+    let b = scheme::or_size(a, matrix.len(), scheme::matrix_len(s));
+    let c = scheme::or_size(b, secrets.len(), l * l);
+    scheme::or_size(c, random.len(), random_len(s))
+}
+
+// Refusal 4 of what both calls take.
+fn or_inputs(standing: u16, s: Params, matrix: &[u16], secrets: &[u16], random: &[u16]) -> u16
+    ensures { λ r. ⌜ r ≡ refusalFrom standing (dealElements (setupOf s (now (matrix .entry))) (now (secrets .entry)) (now (random .entry))) ⌝ }
+{
+    let a = scheme::or_elements(standing, s.p, matrix);
+    let b = scheme::or_elements(a, s.p, secrets);
+    scheme::or_elements(b, s.p, random)
+}
+
+fn deal_refusal(
+    s: Params,
+    matrix: &[u16],
+    secrets: &[u16],
+    random: &[u16],
+    holder: u16,
+    g: &[u16],
+    h: &[u16],
+) -> u16
+    ensures { λ r. ⌜ r ≡ refusal (dealRules (setupOf s (now (matrix .entry))) (now (secrets .entry)) (now (random .entry)) holder (now (g .entry)) (now (h .entry))) ⌝ }
+{
+    let d = scheme::dim(s);
+    let a = inputs_refusal(s, matrix, secrets, random);
+    let b = scheme::or_size(a, g.len(), d);
+    let c = scheme::or_size(b, h.len(), d);
+    base::or_when(or_inputs(c, s, matrix, secrets, random), 5, s.n <= holder)
+}
+
+// A holder's part of a dealing.
+pub fn deal(
+    s: Params,
+    matrix: &[u16],
+    secrets: &[u16],
+    random: &[u16],
+    holder: u16,
+    g: &mut [u16],
+    h: &mut [u16],
+) -> Written
+    ensures { λ r. ⌜ paperWritten r ≡ dealCall (setupOf s (now (matrix .entry))) (now (secrets .entry)) (now (random .entry)) holder (now (g .entry)) (now (h .entry)) ⌝ }
+    ensures { λ _. ⌜ now (g .exit) ≡ dealLeftG (setupOf s (now (matrix .entry))) (now (secrets .entry)) (now (random .entry)) holder (now (g .entry)) (now (h .entry)) ⌝ }
+    ensures { λ _. ⌜ now (h .exit) ≡ dealLeftH (setupOf s (now (matrix .entry))) (now (secrets .entry)) (now (random .entry)) holder (now (g .entry)) (now (h .entry)) ⌝ }
+{
+    let refusal = deal_refusal(s, matrix, secrets, random, holder, g, h);
+    if refusal != 0 {
+        return Written::Refused(refusal);
+    }
+    let d = scheme::dim(s);
+    let mut f = [0u16; 256];
+    fill_dealt(s, secrets, random, &mut f);
+    write_g(s.p, d, matrix, &f, holder as usize, g, 0);
+    write_h(s.p, d, matrix, &f, holder as usize, h, 0);
+    Written::Done
+}
+
+// DEAL TO ALL
+fn deal_all_refusal(
+    s: Params,
+    matrix: &[u16],
+    secrets: &[u16],
+    random: &[u16],
+    gs: &[u16],
+    hs: &[u16],
+) -> u16
+    ensures { λ r. ⌜ r ≡ refusal (dealAllRules (setupOf s (now (matrix .entry))) (now (secrets .entry)) (now (random .entry)) (now (gs .entry)) (now (hs .entry))) ⌝ }
+{
+    let size = scheme::matrix_len(s);
+    let a = inputs_refusal(s, matrix, secrets, random);
+    let b = scheme::or_size(a, gs.len(), size);
+    let c = scheme::or_size(b, hs.len(), size);
+    or_inputs(c, s, matrix, secrets, random)
+}
+
+// Every holder's part of a dealing: the inputs are checked and F is made once.
+pub fn deal_all(
+    s: Params,
+    matrix: &[u16],
+    secrets: &[u16],
+    random: &[u16],
+    gs: &mut [u16],
+    hs: &mut [u16],
+) -> Written
+    ensures { λ r. ⌜ paperWritten r ≡ dealAllCall (setupOf s (now (matrix .entry))) (now (secrets .entry)) (now (random .entry)) (now (gs .entry)) (now (hs .entry)) ⌝ }
+    ensures { λ _. ⌜ now (gs .exit) ≡ dealAllLeftG (setupOf s (now (matrix .entry))) (now (secrets .entry)) (now (random .entry)) (now (gs .entry)) (now (hs .entry)) ⌝ }
+    ensures { λ _. ⌜ now (hs .exit) ≡ dealAllLeftH (setupOf s (now (matrix .entry))) (now (secrets .entry)) (now (random .entry)) (now (gs .entry)) (now (hs .entry)) ⌝ }
+{
+    let refusal = deal_all_refusal(s, matrix, secrets, random, gs, hs);
+    if refusal != 0 {
+        return Written::Refused(refusal);
+    }
+    let d = scheme::dim(s);
+    let mut f = [0u16; 256];
+    fill_dealt(s, secrets, random, &mut f);
+    write_parts(s.p, d, s.n as usize, matrix, &f, gs, hs);
+    Written::Done
+}

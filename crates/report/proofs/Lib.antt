@@ -1,0 +1,2 @@
+mod Text
+mod Examples
