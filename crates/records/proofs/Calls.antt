@@ -1,0 +1,132 @@
+-- What an accepted call says of its inputs: a table is passed only where none of its rules holds.
+-- positive: the numbers of a table are above 0, in whatever order they stand
+use mathlib.Core.Path.{_≡_, refl, ap, _∙_}
+use mathlib.Core.Bool.{Bool, true, false, not, _&&_}
+use mathlib.Core.List.{List, [], _∷_, _++_}
+use Prim.Native.Nat.{ℕ, zero, suc, _+_, _*_, _≤_}
+use native.Mathlib.Omega.{arith}
+use native.Mathlib.Nat.{mul-le-mul}
+use lib.Dec.{eqb, ltb, T}
+use lib.ListN.{length}
+use borrow.Author.Tests.{eqb-true, eq-eqb, not-false}
+use Rattle.base.specs.Rules.{Rule, _when_, refusalFrom, refusal, Rising, Clear, Answer}
+use Rattle.base.proofs.Choice.{T-right}
+use Rattle.field.specs.Fields.{isField}
+use Rattle.scheme.specs.Setup.{Setup, dim, Limits}
+use Rattle.scheme.specs.Answers.{answerBy, leftBy}
+use Rattle.scheme.specs.Calls.{limits}
+use Rattle.scheme.proofs.Calls.{inside, size-is}
+use Rattle.records.specs.declared.DealingRecord.{DealingRecord}
+use Rattle.records.specs.declared.PairRecord.{PairRecord}
+use Rattle.records.specs.declared.VerdictRecord.{VerdictRecord}
+use Rattle.records.specs.declared.ShareRecord.{ShareRecord}
+use Rattle.records.specs.Records.{room, setupSize, dealingSize, setupAt, writeSetupRules, readSetupRules, readMatrixRules, writeDealingRules, dueDealing, readDealingRules, writePairRules, writeVerdictRules, writeShareRules}
+
+-- a number other than 0 stays to the end of a table
+pub stays : (r : ℕ) (l : List Rule) → (r ≡ 0 → ⊥) → r ≡ refusalFrom r l
+stays zero l n = absurd (n refl)
+stays (suc r) [] n = refl
+stays (suc r) ((k when b) ∷ l) n = stays (suc r) l n
+
+abbrev pub positive : List Rule → Bool
+positive [] = true
+positive ((k when b) ∷ l) = ltb 0 k && positive l
+
+pub passed : (l : List Rule) → T (positive l) → refusal l ≡ 0 → Clear l
+passed [] t e = tt
+passed ((zero when b) ∷ l) t e = absurd t
+passed ((suc k when true) ∷ l) t e = absurd (omega (arith, stays (suc k) l (λ z. omega arith) ∙ e))
+passed ((suc k when false) ∷ l) t e = (refl, passed l (T-right (ltb 0 (suc k)) (positive l) t) e)
+
+pub clear-left : (l m : List Rule) → Clear (l ++ m) → Clear l
+clear-left [] m c = tt
+clear-left ((k when b) ∷ l) m c = (c .0, clear-left l m (c .1))
+
+pub clear-right : (l m : List Rule) → Clear (l ++ m) → Clear m
+clear-right [] m c = c
+clear-right ((k when b) ∷ l) m c = clear-right l m (c .1)
+
+pub clear-both : (l m : List Rule) → Clear l → Clear m → Clear (l ++ m)
+clear-both [] m c d = d
+clear-both ((k when b) ∷ l) m c d = (c .0, clear-both l m (c .1) d)
+
+-- a call that was not refused
+pub accepted : (r : ℕ) (a : Answer) → r ≡ 0 → a ≡ answerBy r a
+accepted zero a e = refl
+accepted (suc r) a e = absurd (omega arith)
+
+pub written : (r : ℕ) (new old l : List ℕ) → r ≡ 0 → l ≡ new → l ≡ leftBy r new old
+written zero new old l e h = h
+written (suc r) new old l e h = absurd (omega arith)
+
+-- refusals 1, 2 and 3
+pub limits-are : (S : Setup) → Clear (limits S) → Limits S
+limits-are S c =
+    record {
+      field = not-false (isField (S .p)) (c .0);
+      secret = inside 1 8 (S .l) (c .1 .0);
+      random = inside 1 8 (S .e) (c .1 .1 .0);
+      holders = inside 1 32 (S .n) (c .1 .1 .1 .0);
+    }
+
+pub dim-small : (S : Setup) → Limits S → dim S ≤ 16
+dim-small S L = omega (arith, L .secret, L .random)
+
+pub matrix-small : (S : Setup) → Limits S → S .n * dim S ≤ 512
+matrix-small S L = mul-le-mul {n₁ = S .n} {m₁ = dim S} {n₂ = 32} {m₂ = 16} (L .holders .1) (dim-small S L)
+
+room-is : (k needed : ℕ) → not (eqb k needed) ≡ false → k ≡ needed
+room-is k needed e = eqb-true k needed (not-false (eqb k needed) e)
+
+pub room-clear : (k needed : ℕ) → k ≡ needed → not (eqb k needed) ≡ false
+room-clear k needed e = ap not (eq-eqb k needed e)
+
+-- the room of a record without lists
+pub room-just : (S : Setup) (k needed : ℕ) (l : List Rule) → T (positive l) → refusal (limits S ++ room k needed ∷ l) ≡ 0 → k ≡ needed
+room-just S k needed l t e = room-is k needed (passed (limits S ++ room k needed ∷ l) t e .1 .1 .1 .1 .0)
+
+pub setup-room : (S : Setup) (k : ℕ) → refusal (writeSetupRules S k) ≡ 0 → (length (S .M) ≡ S .n * dim S) × (k ≡ setupSize S)
+setup-room S k e =
+    let r = passed (writeSetupRules S k) tt e .1 .1 .1 .1 in
+    (size-is (S .M) _ (r .0), room-is k _ (r .1 .0))
+
+pub setup-limits : (s : List ℕ) → refusal (readSetupRules s) ≡ 0 → Limits (setupAt s)
+setup-limits s e = limits-are (setupAt s) (let r = passed (readSetupRules s) tt e .1 .1 .1 in (r .0, (r .1 .0, (r .1 .1 .0, (r .1 .1 .1 .0, tt)))))
+
+pub matrix-room : (s : List ℕ) (k : ℕ) → refusal (readMatrixRules s k) ≡ 0 → (k ≡ setupAt s .n * dim (setupAt s)) × Limits (setupAt s)
+matrix-room s k e =
+    let r = passed (readMatrixRules s k) tt e .1 .1 .1 in
+    (room-is k _ (r .1 .1 .1 .1 .1 .0), limits-are (setupAt s) (r .0, (r .1 .0, (r .1 .1 .0, (r .1 .1 .1 .0, tt)))))
+
+pub dealing-room : (S : Setup) (x : DealingRecord) (g h : List ℕ) (k : ℕ) → refusal (writeDealingRules S x g h k) ≡ 0
+    → (length g ≡ dim S) × (length h ≡ dim S) × (k ≡ dealingSize S)
+dealing-room S x g h k e =
+    let r = passed (writeDealingRules S x g h k) tt e .1 .1 .1 .1 in
+    (size-is g _ (r .0), size-is h _ (r .1 .0), room-is k _ (r .1 .1 .0))
+
+pub dealing-limits : (S : Setup) (s : List ℕ) (j k : ℕ) → refusal (dueDealing S s j k) ≡ 0 → Limits S
+dealing-limits S s j k e =
+    let r = passed (dueDealing S s j k) tt e in
+    limits-are S (r .0, (r .1 .0, (r .1 .1 .0, (r .1 .1 .1 .0, tt))))
+
+pub parts-room : (S : Setup) (s : List ℕ) (j k : ℕ) → refusal (readDealingRules S s j k) ≡ 0 → (j ≡ dim S) × (k ≡ dim S) × Limits S
+parts-room S s j k e =
+    let r = passed (readDealingRules S s j k) tt e in
+    let q = r .1 .1 .1 .1 in
+    (room-is j _ (q .0), room-is k _ (q .1 .0), limits-are S (r .0, (r .1 .0, (r .1 .1 .0, (r .1 .1 .1 .0, tt)))))
+
+-- the numbers of a writer's table rise, and so do those of a record's own faults: the first that applies is the lowest
+pub setup-rising : (S : Setup) (k : ℕ) → Rising (writeSetupRules S k)
+setup-rising S k = tt
+
+pub dealing-rising : (S : Setup) (x : DealingRecord) (g h : List ℕ) (k : ℕ) → Rising (writeDealingRules S x g h k)
+dealing-rising S x g h k = tt
+
+pub pair-rising : (S : Setup) (x : PairRecord) (k : ℕ) → Rising (writePairRules S x k)
+pair-rising S x k = tt
+
+pub verdict-rising : (S : Setup) (x : VerdictRecord) (k : ℕ) → Rising (writeVerdictRules S x k)
+verdict-rising S x k = tt
+
+pub share-rising : (S : Setup) (x : ShareRecord) (k : ℕ) → Rising (writeShareRules S x k)
+share-rising S x k = tt
