@@ -1,0 +1,241 @@
+// Document 01's cases, worked by the compiled calls: a line for each, its words and then what the call gave.
+use libc::STDOUT_FILENO;
+use scheme::Fate;
+use scheme::Judged;
+use scheme::Judgement;
+use scheme::Params;
+use scheme::Rehearsal;
+use scheme::Settled;
+use scheme::Value;
+use scheme::Written;
+
+fn say(text: &[u8]) {
+    io::write_all(STDOUT_FILENO, text);
+}
+
+fn number(x: u16) {
+    say(b" ");
+    io::print_decimal(STDOUT_FILENO, x as u64);
+}
+
+fn numbers(xs: &[u16]) {
+    let mut i = 0;
+    while i < xs.len() {
+        number(xs[i]);
+        i += 1;
+    }
+}
+
+fn refused(k: u16) {
+    say(b" refused");
+    number(k);
+}
+
+fn written(answer: Written, out: &[u16]) {
+    match answer {
+        Written::Done => say(b" done"),
+        Written::Refused(k) => refused(k),
+    }
+    say(b":");
+    numbers(out);
+    say(b"\n");
+}
+
+fn value(answer: Value) {
+    match answer {
+        Value::Is(x) => number(x),
+        Value::Refused(k) => refused(k),
+    }
+    say(b"\n");
+}
+
+fn params(p: u16, l: u16, e: u16, n: u16) -> Params {
+    Params {
+        p: p,
+        l: l,
+        e: e,
+        n: n,
+    }
+}
+
+fn example() -> Params {
+    params(7, 1, 1, 3)
+}
+
+fn judgement(answer: Judgement) {
+    match answer {
+        Judgement::Accept => say(b" accept\n"),
+        Judgement::Reject(j) => {
+            say(b" reject");
+            number(j);
+            say(b"\n");
+        },
+    }
+}
+
+fn judged(answer: Judged) {
+    match answer {
+        Judged::As(j) => judgement(j),
+        Judged::Refused(k) => {
+            refused(k);
+            say(b"\n");
+        },
+    }
+}
+
+fn fate(answer: Fate, share: u16) {
+    match answer {
+        Fate::Kept => say(b" kept"),
+        Fate::Aborted(i) => {
+            say(b" aborted");
+            number(i);
+        },
+    }
+    say(b":");
+    number(share);
+    say(b"\n");
+}
+
+fn settled(answer: Settled, share: u16) {
+    match answer {
+        Settled::As(f) => fate(f, share),
+        Settled::Refused(k) => {
+            refused(k);
+            say(b"\n");
+        },
+    }
+}
+
+fn rehearsed(answer: Rehearsal) {
+    match answer {
+        Rehearsal::Fair => say(b" fair\n"),
+        Rehearsal::Disagree(i, j) => {
+            say(b" disagree");
+            number(i);
+            number(j);
+            say(b"\n");
+        },
+        Rehearsal::Refused(k) => {
+            refused(k);
+            say(b"\n");
+        },
+    }
+}
+
+// Matrices from points: of the example, at the last n that p 7 has points for, and one holder above it.
+fn points() {
+    let mut of_3 = [9u16; 6];
+    let mut of_5 = [9u16; 10];
+    let mut of_6 = [9u16; 12];
+    say(b"points of 3 holders");
+    let a = dealing::points(example(), &mut of_3);
+    written(a, &of_3);
+    say(b"points of 5 holders");
+    let b = dealing::points(params(7, 1, 1, 5), &mut of_5);
+    written(b, &of_5);
+    say(b"points of 6 holders");
+    let c = dealing::points(params(7, 1, 1, 6), &mut of_6);
+    written(c, &of_6);
+}
+
+// The parts of F rows (3, 1), (5, 2), with one of its entries given.
+fn parts(secret: u16, holder: u16) {
+    say(b"secret");
+    number(secret);
+    say(b", g and h of holder");
+    number(holder);
+    let mut g = [9u16; 2];
+    let mut h = [9u16; 2];
+    let answer = dealing::deal(
+        example(),
+        &[6, 2, 5, 3, 4, 4],
+        &[secret],
+        &[1, 5, 2],
+        holder,
+        &mut g,
+        &mut h,
+    );
+    written(answer, &[g[0], g[1], h[0], h[1]]);
+}
+
+// All the parts of one dealing in one call, and the dealer's rehearsal of them and of one that lies.
+fn all_parts() {
+    let mut gs = [9u16; 6];
+    let mut hs = [9u16; 6];
+    let answer = dealing::deal_all(
+        example(),
+        &[6, 2, 5, 3, 4, 4],
+        &[3],
+        &[1, 5, 2],
+        &mut gs,
+        &mut hs,
+    );
+    say(b"g of all");
+    written(answer, &gs);
+    say(b"h of all");
+    written(answer, &hs);
+    say(b"rehearsal");
+    rehearsed(judging::rehearse(example(), &[6, 2, 5, 3, 4, 4], &gs, &hs));
+    gs[5] = 6;
+    say(b"rehearsal with another g of holder 2");
+    rehearsed(judging::rehearse(example(), &[6, 2, 5, 3, 4, 4], &gs, &hs));
+}
+
+// The value to holder 1 from the holder with this g.
+fn pair_value(g0: u16, g1: u16) {
+    say(b"pair value to holder 1 from g");
+    number(g0);
+    number(g1);
+    say(b":");
+    value(judging::pair_value(example(), &[6, 2, 5, 3, 4, 4], &[g0, g1], 1));
+}
+
+// The judgement of holder 1 on these values.
+fn judge(a: u16, b: u16, c: u16) {
+    say(b"holder 1 judges");
+    numbers(&[a, b, c]);
+    say(b":");
+    judged(judging::judge(example(), &[6, 2, 5, 3, 4, 4], &[4, 3], &[a, b, c]));
+}
+
+// The outcome at holder 1 under these verdicts.
+fn outcome(a: u16, b: u16, c: u16) {
+    say(b"outcome of verdicts");
+    numbers(&[a, b, c]);
+    say(b":");
+    let mut share = [9u16; 1];
+    let answer = judging::outcome(example(), &[2, 4], &[a, b, c], &mut share);
+    settled(answer, share[0]);
+}
+
+// Twice a share.
+fn twice(share: u16) {
+    say(b"twice");
+    number(share);
+    say(b":");
+    value(judging::combine(7, &[2], &[share]));
+}
+
+fn main() {
+    points();
+    parts(3, 0);
+    parts(3, 1);
+    parts(3, 2);
+    parts(3, 3);
+    parts(6, 0);
+    parts(7, 0);
+    all_parts();
+    pair_value(0, 3);
+    pair_value(2, 4);
+    pair_value(4, 5);
+    pair_value(4, 7);
+    judge(2, 1, 0);
+    judge(3, 1, 0);
+    judge(2, 1, 7);
+    outcome(1, 1, 1);
+    outcome(1, 0, 0);
+    outcome(1, 1, 2);
+    twice(0);
+    twice(2);
+    twice(4);
+}
