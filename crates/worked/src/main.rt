@@ -1,10 +1,13 @@
 // Document 01's cases, worked by the compiled calls: a line for each, its words and then what the call gave.
 use libc::STDOUT_FILENO;
+use scheme::Decided;
 use scheme::Fate;
 use scheme::Judged;
 use scheme::Judgement;
+use scheme::Opened;
 use scheme::Params;
 use scheme::Rehearsal;
+use scheme::SetJudged;
 use scheme::Settled;
 use scheme::Value;
 use scheme::Written;
@@ -122,6 +125,44 @@ fn rehearsed(answer: Rehearsal) {
     }
 }
 
+fn decided(answer: Decided) {
+    match answer {
+        Decided::Yes => say(b" yes\n"),
+        Decided::No => say(b" no\n"),
+        Decided::Refused(k) => {
+            refused(k);
+            say(b"\n");
+        },
+    }
+}
+
+fn opened(answer: Opened, secret: u16) {
+    match answer {
+        Opened::Secrets => say(b" secrets"),
+        Opened::Undetermined(q) => {
+            say(b" 6 at position");
+            number(q);
+        },
+        Opened::Inconsistent => say(b" 7"),
+        Opened::Refused(k) => refused(k),
+    }
+    say(b":");
+    number(secret);
+    say(b"\n");
+}
+
+fn set_judged(answer: SetJudged, found: &[u16]) {
+    match answer {
+        SetJudged::Row => say(b" row"),
+        SetJudged::Vector => say(b" vector"),
+        SetJudged::Neither => say(b" neither"),
+        SetJudged::Refused(k) => refused(k),
+    }
+    say(b":");
+    numbers(found);
+    say(b"\n");
+}
+
 // Matrices from points: of the example, at the last n that p 7 has points for, and one holder above it.
 fn points() {
     let mut of_3 = [9u16; 6];
@@ -216,6 +257,52 @@ fn twice(share: u16) {
     value(judging::combine(7, &[2], &[share]));
 }
 
+// An opening by a set of the example's holders that hands in these shares.
+fn open(set: u16, shares: &[u16]) {
+    say(b"set");
+    number(set);
+    say(b" opens");
+    numbers(shares);
+    say(b":");
+    let mut secret = [9u16; 1];
+    let answer = opening::open(
+        example(),
+        &[6, 2, 5, 3, 4, 4],
+        set as u32,
+        shares,
+        &mut secret,
+    );
+    opened(answer, secret[0]);
+}
+
+// What a set is on the example's matrix.
+fn set_of_example(set: u16) {
+    say(b"set");
+    number(set);
+    say(b" determines:");
+    decided(opening::determines(example(), &[6, 2, 5, 3, 4, 4], set as u32));
+    say(b"set");
+    number(set);
+    say(b" is private:");
+    decided(opening::private(example(), &[6, 2, 5, 3, 4, 4], set as u32));
+    say(b"set");
+    number(set);
+    say(b" at position 0:");
+    let mut found = [9u16; 32];
+    let answer = opening::judge_set(example(), &[6, 2, 5, 3, 4, 4], set as u32, 0, &mut found);
+    set_judged(answer, &found);
+}
+
+// One holder with the row (1, 1, 0), l 2 and e 1.
+fn neither(position: u16) {
+    say(b"row (1, 1, 0) at position");
+    number(position);
+    say(b":");
+    let mut found = [9u16; 32];
+    let answer = opening::judge_set(params(7, 2, 1, 1), &[1, 1, 0], 1, position, &mut found);
+    set_judged(answer, &found);
+}
+
 fn main() {
     points();
     parts(3, 0);
@@ -238,4 +325,19 @@ fn main() {
     twice(0);
     twice(2);
     twice(4);
+    open(5, &[0, 4]);
+    open(7, &[0, 2, 4]);
+    open(7, &[0, 2, 5]);
+    open(7, &[0, 4, 1]);
+    open(1, &[0]);
+    open(0, &[]);
+    open(8, &[0]);
+    open(7, &[0, 2]);
+    set_of_example(5);
+    set_of_example(1);
+    set_of_example(0);
+    set_of_example(8);
+    neither(0);
+    neither(1);
+    neither(2);
 }

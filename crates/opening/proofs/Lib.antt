@@ -1,0 +1,4 @@
+pub mod Load
+pub mod Answer
+pub mod Judge
+pub mod Back
