@@ -5,7 +5,7 @@
 -- Rising: the numbers of a table are above 0 and none stands before a lower one
 -- Applies: a rule of that number holds
 -- Clear: no rule of the table holds
--- Answer: what document 01 says of an answer, a refusal's number (0: none) and the values given beside it
+-- Answer: what document 01 says of an answer: whether the call answered, the refusal's number (0: none) and the values given beside it
 use Prim.Native.Nat.{ℕ, zero, suc}
 use mathlib.Core.Bool.{Bool, true, false, _&&_}
 use mathlib.Core.List.{List, [], _∷_}
@@ -45,11 +45,12 @@ Clear [] = Unit {0}
 Clear ((k when b) ∷ l) = (b ≡ false) × Clear l
 
 pub record Answer : Type 0 where
+  pub answered : Bool
   pub number : ℕ
   pub values : List ℕ
 
 abbrev pub refused : ℕ → Answer
-refused k = record { number = k; values = [] }
+refused k = record { answered = false; number = k; values = [] }
 
 abbrev pub given : List ℕ → Answer
-given vs = record { number = 0; values = vs }
+given vs = record { answered = true; number = 0; values = vs }

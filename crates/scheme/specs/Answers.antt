@@ -7,6 +7,7 @@
 -- yes, no: a question's answer
 -- undetermined, inconsistent: refusal 6 with the lowest position that has no row, refusal 7
 -- answerBy, leftBy: the answer and a lent buffer by the refusal's number: "buffers unchanged, in all rows" of the table of refusals
+use mathlib.Core.Bool.{false}
 use mathlib.Core.List.{List, [], _∷_}
 use Prim.Native.Nat.{ℕ, zero, suc}
 use Rattle.base.specs.Rules.{Answer, refused, given}
@@ -65,7 +66,7 @@ abbrev pub no : Answer
 no = given (0 ∷ [])
 
 abbrev pub undetermined : ℕ → Answer
-undetermined k = record { number = 6; values = k ∷ [] }
+undetermined k = record { answered = false; number = 6; values = k ∷ [] }
 
 abbrev pub inconsistent : Answer
 inconsistent = refused 7

@@ -166,7 +166,7 @@ openRules S s xs out =
 
 -- the secrets stand in the buffer; refusals 6 and 7 are the opening's own
 abbrev pub openAnswer : Answer → Answer
-openAnswer a = record { number = a .number; values = pick (eqb (a .number) 0) [] (a .values) }
+openAnswer a = record { answered = a .answered; number = a .number; values = pick (eqb (a .number) 0) [] (a .values) }
 
 abbrev pub openCall : Setup → ℕ → List ℕ → List ℕ → Answer
 openCall S s xs out = answerBy (refusal (openRules S s xs out)) (openAnswer (opening S (holds s) xs))
