@@ -213,12 +213,13 @@ fn open_by(
     requires { ⌜ Fresh (length (members 32 (holds set))) (s .l + s .e + 1) (now a) (now used) ⌝ }
     ensures { λ r. ⌜ OpenedAs (setupOf s (now (matrix .entry))) set (now (shares .entry)) (now (secrets .entry)) (paperOpened r) (now (secrets .exit)) ⌝ }
 {
+    let k = shares.len();
     let q = reduce_beside(s, matrix, set, shares, a, used);
     if q < (s.l as usize) {
-        return Opened::Undetermined(q as u16);
+        let position = q as u16;
+        return Opened::Undetermined(position);
     }
     let d = scheme::dim(s);
-    let k = shares.len();
     if linear::unsolved(a, used, k, d + 1, d) < k {
         return Opened::Inconsistent;
     }

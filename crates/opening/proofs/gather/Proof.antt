@@ -47,9 +47,7 @@ loop-less : tie.Need-loop-less Inv-loop μ-loop
 loop-less c = search needs
 
 loop-again : tie.Need-loop-again Inv-loop μ-loop
-loop-again c =
-    let x = c .before .before .before .before .before .before .before .args in
-    (search needs, search needs, rw laid-step (cc (ap (λ n. getD (x .m .now) (n + x .c) 0) (c .before .row-start .ensures))))
+loop-again c = (search needs, search needs, rw laid-step (cc))
 
 same-length : tie.Need-same-length Inv-loop μ-loop
 same-length c = search needs

@@ -13,8 +13,8 @@ reduce-beside-requires c κs = let b = c .before .before .before .before .before
 cast-if1 : tie.Need-cast-if1
 cast-if1 c = search needs
 
-cast-t17 : tie.Need-cast-t17
-cast-t17 c =
+cast-position : tie.Need-cast-position
+cast-position c =
     let ok = c .before .before .before .before .before .before .before .before .before .before .before .before .before .before .pre .0 .set .setup .limits in
     omega (arith, ok .secret)
 
@@ -99,7 +99,7 @@ open-by-spec =
     (tie.spec
     reduce-beside-requires
     cast-if1
-    cast-t17
+    cast-position
     same-length
     same-length-2
     returns

@@ -26,7 +26,7 @@ returns-2 c =
     let S = setupOf (x .s) (x .matrix .now) in
     let z = sym (c .before .before .before .before .set-refusal .ensures) ∙ c .before .before .before .if1 .left in
     let r = c .before .before .size in
-    rw (z, private-by S (x .set) (set-ok S (x .set) z) (r .result) (r .ensures .0), le-leb _ _ (c .if2 .taken)) refl
+    rw (z, private-by S (x .set) (set-ok S (x .set) z) (r .result) (r .ensures .0), le-leb (r .result) (x .s .e) (c .if2 .taken)) refl
 
 returns-3 : tie.Need-returns-3
 returns-3 c =
@@ -34,7 +34,7 @@ returns-3 c =
     let S = setupOf (x .s) (x .matrix .now) in
     let z = sym (c .before .before .before .before .set-refusal .ensures) ∙ c .before .before .before .if1 .left in
     let r = c .before .before .size in
-    rw (z, private-by S (x .set) (set-ok S (x .set) z) (r .result) (r .ensures .0), lt-leb _ _ (c .if2 .left)) refl
+    rw (z, private-by S (x .set) (set-ok S (x .set) z) (r .result) (r .ensures .0), lt-leb (r .result) (x .s .e) (c .if2 .left)) refl
 
 pub private-spec : {M : Type 1} → statement M
 private-spec =

@@ -1,0 +1,98 @@
+//! Writes the stored files of the program `files`, each behind its length, and what the reference prints for them: `files INPUT OUTPUT`.
+
+mod cases;
+use cases::*;
+use reference::*;
+
+fn bytes(words: &[u16]) -> Vec<u8> {
+    words.iter().flat_map(|w| w.to_le_bytes()).collect()
+}
+
+/// The words of document 01's example.
+fn example() -> Vec<u16> {
+    let mut words = vec![0x5553, 7, 1, 1, 3, 6, 2, 5, 3, 4, 4];
+    words.extend([0x4C44, 1, 1, 2, 4, 4, 3]);
+    for (from, value) in [(0, 2), (1, 1), (2, 0)] {
+        words.extend([0x5650, 1, from, 1, value]);
+    }
+    for holder in 0..3 {
+        words.extend([0x4456, 1, holder, 1]);
+    }
+    words
+}
+
+/// A file of zeros in which everyone accepts.
+fn zeros(p: u16, l: u16, e: u16, n: u16) -> Vec<u16> {
+    let d = l as usize + e as usize;
+    let mut words = vec![0x5553, p, l, e, n];
+    words.extend(vec![0; n as usize * d]);
+    words.extend([0x4C44, 65535, n - 1]);
+    words.extend(vec![0; 2 * d]);
+    for from in 0..n {
+        words.extend([0x5650, 65535, from, n - 1, 0]);
+        words.extend([0x4456, 65535, from, 1]);
+    }
+    words
+}
+
+fn main() {
+    let args: Vec<String> = std::env::args().collect();
+    let mut files: Vec<Vec<u8>> = vec![];
+    let whole = example();
+
+    // document 01's cases: the last VD gone; PV from 0 made 3, with own VD 0 and with own VD 1
+    files.push(bytes(&whole));
+    files.push(bytes(&whole[..41]));
+    let mut spoilt = whole.clone();
+    spoilt[22] = 3;
+    files.push(bytes(&spoilt));
+    spoilt[40] = 0;
+    files.push(bytes(&spoilt));
+
+    // the limits of p, l, e and n
+    for (p, l, e, n) in [(2, 8, 1, 1), (7, 9, 1, 1), (251, 1, 8, 1), (257, 1, 9, 1), (65521, 1, 1, 32), (2, 1, 1, 33), (3, 1, 1, 1), (65520, 1, 1, 1)] {
+        files.push(bytes(&zeros(p, l, e, n)));
+    }
+
+    // cut at every byte
+    let all = bytes(&whole);
+    files.extend((0..all.len()).map(|k| all[..k].to_vec()));
+
+    // every word in turn at the limits and one past them, and every mark in every place
+    for k in 0..whole.len() {
+        for w in [0, 1, 2, 3, 6, 7, 8, 9, 33, 65535, 0x5553, 0x4C44, 0x5650, 0x4456, 0x4853] {
+            let mut changed = whole.clone();
+            changed[k] = w;
+            if changed != whole {
+                files.push(bytes(&changed));
+            }
+        }
+    }
+
+    // every record once more at the end, left out, and moved to the end
+    for (from, to) in [(0, 11), (11, 18), (18, 23), (23, 28), (28, 33), (33, 37), (37, 41), (41, 45)] {
+        let record = &whole[from..to];
+        let without = [&whole[..from], &whole[to..]].concat();
+        files.push(bytes(&[&whole[..], record].concat()));
+        files.push(bytes(&without));
+        files.push(bytes(&[&without[..], record].concat()));
+    }
+
+    // drawn files of every field, in order or damaged
+    let mut r = Random(20140902);
+    while files.len() < 1000 {
+        let c = draw(&mut r, 12);
+        if c.slices[0].len() < 600 {
+            files.push(c.slices[0].iter().map(|&b| b as u8).collect());
+        }
+    }
+
+    let (mut input, mut output) = (vec![], String::new());
+    for file in &files {
+        input.extend((file.len() as u16).to_le_bytes());
+        input.extend(file);
+        output += &holder(file);
+    }
+    std::fs::write(&args[1], input).unwrap();
+    std::fs::write(&args[2], output).unwrap();
+}
