@@ -38,7 +38,7 @@ impl Case {
     pub fn expected(&self) -> Vec<u16> {
         let (s, x) = (self.params(), &self.slices);
         let mut left: Vec<Vec<u16>> = vec![];
-        let mut lend = |k: usize| x[k].clone();
+        let lend = |k: usize| x[k].clone();
         let answer = match self.call {
             0 => {
                 let mut m = lend(0);
@@ -345,7 +345,11 @@ fn damage(r: &mut Random, c: &mut Case) {
         2 => {
             let k = r.below(c.slices.len());
             let x = &mut c.slices[k];
-            if r.chance(2) { x.push(0) } else { drop(x.pop()) }
+            if r.chance(2) {
+                x.push(0);
+            } else {
+                x.pop();
+            }
         }
         3 => {
             let (k, p) = (r.below(c.slices.len()), c.numbers[0]);

@@ -1,7 +1,6 @@
-//! Writes the stored files of the program `files`, each behind its length, and what the reference prints for them: `files INPUT OUTPUT`.
+//! The stored files of the program `files`, each behind its length, and what the reference prints for them.
 
-mod cases;
-use cases::*;
+use crate::cases::*;
 use reference::*;
 
 fn bytes(words: &[u16]) -> Vec<u8> {
@@ -35,8 +34,7 @@ fn zeros(p: u16, l: u16, e: u16, n: u16) -> Vec<u16> {
     words
 }
 
-fn main() {
-    let args: Vec<String> = std::env::args().collect();
+pub fn stored() -> (Vec<u8>, String) {
     let mut files: Vec<Vec<u8>> = vec![];
     let whole = example();
 
@@ -93,6 +91,5 @@ fn main() {
         input.extend(file);
         output += &holder(file);
     }
-    std::fs::write(&args[1], input).unwrap();
-    std::fs::write(&args[2], output).unwrap();
+    (input, output)
 }

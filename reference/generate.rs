@@ -1,10 +1,11 @@
-//! Writes the stored cases and the reference's answers: `generate CASES RESULTS`.
+//! Writes stored inputs and what the reference answers: `generate files INPUT OUTPUT` for the program `files`, `generate cases INPUT OUTPUT` for every call.
 
 mod cases;
+mod files;
 use cases::*;
 
-fn main() {
-    let args: Vec<String> = std::env::args().collect();
+/// Drawn cases of every call, the answers a line each.
+fn drawn() -> (Vec<u8>, String) {
     let mut r = Random(20140901);
     let (mut input, mut output) = (vec![], String::new());
     for round in 0..300 {
@@ -20,6 +21,16 @@ fn main() {
             output += &c.line();
         }
     }
-    std::fs::write(&args[1], input).unwrap();
-    std::fs::write(&args[2], output).unwrap();
+    (input, output)
+}
+
+fn main() {
+    let args: Vec<String> = std::env::args().collect();
+    let (input, output) = match args[1].as_str() {
+        "files" => files::stored(),
+        "cases" => drawn(),
+        other => panic!("neither files nor cases: {other}"),
+    };
+    std::fs::write(&args[2], input).unwrap();
+    std::fs::write(&args[3], output).unwrap();
 }
