@@ -35,7 +35,7 @@ pub fn dot_product(
 }
 
 // y - f x modulo p.
-pub fn sub_entry(y: u64, x: u64, f: u16, p: u16) -> u16
+fn sub_entry(y: u64, x: u64, f: u16, p: u16) -> u16
     requires { ⌜ (y ≤ 65535) × (x ≤ 65535) × (f ≤ p) × (0 < p) ⌝ }
     ensures { λ r. ⌜ r ≡ subEntry p f y x ⌝ }
 {
@@ -44,7 +44,7 @@ pub fn sub_entry(y: u64, x: u64, f: u16, p: u16) -> u16
 }
 
 // The row that starts at t becomes that row less f times the row that starts at q.
-pub fn sub_row(a: &mut [u16], width: usize, t: usize, q: usize, f: u16, p: u16)
+fn sub_row(a: &mut [u16], width: usize, t: usize, q: usize, f: u16, p: u16)
     requires { ⌜ (t + width ≤ length (now a)) × (q + width ≤ length (now a)) × (f ≤ p) × (0 < p) ⌝ }
     ensures { λ _. ⌜ now (a .exit) ≡ subTo p f t q width (now (a .entry)) ⌝ }
 {
@@ -58,7 +58,7 @@ pub fn sub_row(a: &mut [u16], width: usize, t: usize, q: usize, f: u16, p: u16)
 }
 
 // Clears the entry of row r in a column by the pivot row k.
-pub fn clear_row(a: &mut [u16], width: usize, k: usize, col: usize, r: usize, p: u16)
+fn clear_row(a: &mut [u16], width: usize, k: usize, col: usize, r: usize, p: u16)
     requires { ⌜ (r * width + width ≤ length (now a)) × (k * width + width ≤ length (now a)) × (col < width) × (0 < p) ⌝ }
     requires { ⌜ Below p (now a) ⌝ }
     ensures { λ _. ⌜ RowCleared p width k col r (now (a .entry)) (now (a .exit)) ⌝ }
@@ -75,7 +75,7 @@ pub fn clear_row(a: &mut [u16], width: usize, k: usize, col: usize, r: usize, p:
 }
 
 // Clears a column by the pivot row k.
-pub fn clear_column(a: &mut [u16], rows: usize, width: usize, k: usize, col: usize, p: u16)
+fn clear_column(a: &mut [u16], rows: usize, width: usize, k: usize, col: usize, p: u16)
     requires { ⌜ (length (now a) ≡ rows * width) × (k < rows) × (col < width) × (0 < p) ⌝ }
     requires { ⌜ Below p (now a) ⌝ }
     ensures { λ _. ⌜ ColumnCleared p rows width k col (now (a .entry)) (now (a .exit)) ⌝ }
@@ -88,7 +88,7 @@ pub fn clear_column(a: &mut [u16], rows: usize, width: usize, k: usize, col: usi
 }
 
 // k x modulo p.
-pub fn scale_entry(k: u16, x: u64, p: u16) -> u16
+fn scale_entry(k: u16, x: u64, p: u16) -> u16
     requires { ⌜ (x ≤ 65535) × (0 < p) ⌝ }
     ensures { λ r. ⌜ r ≡ scaleEntry p k x ⌝ }
 {
@@ -96,7 +96,7 @@ pub fn scale_entry(k: u16, x: u64, p: u16) -> u16
 }
 
 // The row that starts at t becomes k times that row.
-pub fn scale_row(a: &mut [u16], width: usize, t: usize, k: u16, p: u16)
+fn scale_row(a: &mut [u16], width: usize, t: usize, k: u16, p: u16)
     requires { ⌜ (t + width ≤ length (now a)) × (0 < p) ⌝ }
     ensures { λ _. ⌜ now (a .exit) ≡ scaleTo p k t width (now (a .entry)) ⌝ }
 {
@@ -109,7 +109,7 @@ pub fn scale_row(a: &mut [u16], width: usize, t: usize, k: u16, p: u16)
 }
 
 // The topmost unused row with an entry in the column, or `rows`.
-pub fn find_pivot(a: &[u16], used: &[u16], rows: usize, width: usize, col: usize) -> usize
+fn find_pivot(a: &[u16], used: &[u16], rows: usize, width: usize, col: usize) -> usize
     requires { ⌜ Fits rows width (now a) (now used) ⌝ }
     requires { ⌜ col < width ⌝ }
     ensures { λ r. ⌜ r ≡ flatPivot rows width col (buffers (now (a .entry)) (now (used .entry))) ⌝ }
@@ -127,7 +127,7 @@ pub fn find_pivot(a: &[u16], used: &[u16], rows: usize, width: usize, col: usize
 }
 
 // The mark of a row whose pivot stands in the column.
-pub fn mark(col: usize) -> u16
+fn mark(col: usize) -> u16
     requires { ⌜ col < 64 ⌝ }
     ensures { λ r. ⌜ r ≡ col + 1 ⌝ }
 {
@@ -135,15 +135,7 @@ pub fn mark(col: usize) -> u16
 }
 
 // Row k becomes the pivot row of the column.
-pub fn use_row(
-    a: &mut [u16],
-    used: &mut [u16],
-    rows: usize,
-    width: usize,
-    k: usize,
-    col: usize,
-    p: u16,
-)
+fn use_row(a: &mut [u16], used: &mut [u16], rows: usize, width: usize, k: usize, col: usize, p: u16)
     requires { ⌜ Ready p rows width (now a) (now used) ⌝ }
     requires { ⌜ (k < rows) × (col < width) ⌝ }
     ensures { λ _. ⌜ RowUsed p rows width k col (now (a .entry)) (now (used .entry)) (now (a .exit)) (now (used .exit)) ⌝ }
@@ -157,7 +149,7 @@ pub fn use_row(
 }
 
 // One column of the elimination.
-pub fn pass_column(a: &mut [u16], used: &mut [u16], rows: usize, width: usize, col: usize, p: u16)
+fn pass_column(a: &mut [u16], used: &mut [u16], rows: usize, width: usize, col: usize, p: u16)
     requires { ⌜ Ready p rows width (now a) (now used) ⌝ }
     requires { ⌜ col < width ⌝ }
     ensures { λ _. ⌜ ColumnPassed p rows width col (now (a .entry)) (now (used .entry)) (now (a .exit)) (now (used .exit)) ⌝ }
@@ -182,7 +174,7 @@ pub fn reduce(a: &mut [u16], used: &mut [u16], rows: usize, width: usize, pivots
 }
 
 // The row whose pivot stands in column q, or `rows`.
-pub fn pivot_row(used: &[u16], rows: usize, q: usize) -> usize
+fn pivot_row(used: &[u16], rows: usize, q: usize) -> usize
     requires { ⌜ (length (now used) ≡ rows) × (q < 64) ⌝ }
     ensures { λ r. ⌜ r ≡ pivotRow rows (at (now (used .entry))) q ⌝ }
 {
@@ -230,7 +222,7 @@ pub fn unsolved(a: &[u16], used: &[u16], rows: usize, width: usize, b: usize) ->
 }
 
 // Whether the row that starts at t has no entry in the first `pivots` columns but at q.
-pub fn alone(a: &[u16], t: usize, pivots: usize, q: usize) -> bool
+fn alone(a: &[u16], t: usize, pivots: usize, q: usize) -> bool
     requires { ⌜ t + pivots ≤ length (now a) ⌝ }
     ensures { λ r. ⌜ r ≡ alone pivots (λ j. getD (now (a .entry)) (t + j) 0) q ⌝ }
 {
