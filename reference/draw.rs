@@ -71,6 +71,14 @@ impl<'a> Draw<'a> {
         Draw::with(r, s, kind)
     }
 
+    /// More holders than columns, mostly, so that many sets determine the secrets.
+    pub fn wide(r: &'a mut Random) -> Self {
+        let p = PRIMES[r.below(5)];
+        let s = Params { p, l: 1 + r.below(2) as u16, e: 1 + r.below(2) as u16, n: 4 + r.below(7) as u16 };
+        let kind = r.one(&[REPEATED, POINTS, ARBITRARY, SPARSE]);
+        Draw::with(r, s, kind)
+    }
+
     pub fn with(r: &'a mut Random, s: Params, kind: usize) -> Self {
         let m = r.elements(s.p, s.entries());
         Draw::of(r, s, m, kind)
@@ -421,6 +429,11 @@ pub fn damaged(r: &mut Random, mut c: Case) -> Case {
 
 /// A case of a call.
 pub fn draw(r: &mut Random, call: u16) -> Case {
-    let c = if r.chance(8) { Draw::any(r).case(call) } else { Draw::new(r).case(call) };
+    let on_a_set = (8..=11).contains(&call);
+    let c = match r.below(8) {
+        0 => Draw::any(r).case(call),
+        1..=4 if on_a_set => Draw::wide(r).case(call),
+        _ => Draw::new(r).case(call),
+    };
     damaged(r, c)
 }
