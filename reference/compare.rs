@@ -86,12 +86,12 @@ mod library {
 use library::*;
 
 /// What the compiled library makes of a case.
-fn ours(c: &Case) -> After {
-    let set = c.set();
-    let Case { call, numbers: x, mut words, mut bytes } = c.clone();
+fn ours(case: &Case) -> After {
+    let set = case.set();
+    let Case { call, numbers: x, mut words, mut bytes } = case.clone();
     let [p, l, e, n, ..] = x;
     let mut places = [UNTOUCHED; 4];
-    let [a, b, c3, d] = &mut places;
+    let [a, b, c, d] = &mut places;
     let (part, part_len) = (bytes.as_mut_ptr(), bytes.len());
     // Every pointer comes with the length of the vector behind it, and no two vectors overlap.
     let number = unsafe {
@@ -106,7 +106,7 @@ fn ours(c: &Case) -> After {
             (3, [m, g]) => mavdrusek_pair_value(p, l, e, n, m.as_ptr(), m.len(), g.as_ptr(), g.len(), x[4], a),
             (4, [m, h, v]) => mavdrusek_judge(p, l, e, n, m.as_ptr(), m.len(), h.as_ptr(), h.len(), v.as_ptr(), v.len(), a, b),
             (5, [g, v, s]) => mavdrusek_outcome(p, l, e, n, g.as_ptr(), g.len(), v.as_ptr(), v.len(), s.as_mut_ptr(), s.len(), a, b),
-            (6, [m, g, h]) => mavdrusek_rehearse(p, l, e, n, m.as_ptr(), m.len(), g.as_ptr(), g.len(), h.as_ptr(), h.len(), a, b, c3),
+            (6, [m, g, h]) => mavdrusek_rehearse(p, l, e, n, m.as_ptr(), m.len(), g.as_ptr(), g.len(), h.as_ptr(), h.len(), a, b, c),
             (7, [k, s]) => mavdrusek_combine(p, k.as_ptr(), k.len(), s.as_ptr(), s.len(), a),
             (8, [m, out]) => mavdrusek_judge_set(p, l, e, n, m.as_ptr(), m.len(), set, x[6], out.as_mut_ptr(), out.len(), a),
             (9, [m]) => mavdrusek_determines(p, l, e, n, m.as_ptr(), m.len(), set, a),
@@ -117,17 +117,17 @@ fn ours(c: &Case) -> After {
             (15, []) => mavdrusek_write_pair_value(p, l, e, n, x[4], x[5], x[6], x[7], part, part_len),
             (16, []) => mavdrusek_write_verdict(p, l, e, n, x[4], x[5], x[6], part, part_len),
             (17, []) => mavdrusek_write_share(p, l, e, n, x[4], x[5], x[6], x[7], part, part_len),
-            (18, []) => mavdrusek_read_setup_head(part, part_len, a, b, c3, d),
+            (18, []) => mavdrusek_read_setup_head(part, part_len, a, b, c, d),
             (19, [m]) => mavdrusek_read_setup_matrix(part, part_len, m.as_mut_ptr(), m.len()),
             (20, [g, h]) => mavdrusek_read_dealing(p, l, e, n, part, part_len, g.as_mut_ptr(), g.len(), h.as_mut_ptr(), h.len(), a, b),
-            (21, []) => mavdrusek_read_pair_value(p, l, e, n, part, part_len, a, b, c3, d),
-            (22, []) => mavdrusek_read_verdict(p, l, e, n, part, part_len, a, b, c3),
-            (23, []) => mavdrusek_read_share(p, l, e, n, part, part_len, a, b, c3, d),
+            (21, []) => mavdrusek_read_pair_value(p, l, e, n, part, part_len, a, b, c, d),
+            (22, []) => mavdrusek_read_verdict(p, l, e, n, part, part_len, a, b, c),
+            (23, []) => mavdrusek_read_share(p, l, e, n, part, part_len, a, b, c, d),
             (24, []) => mavdrusek_field(p),
-            _ => panic!("no such call: {c:?}"),
+            _ => panic!("no such call: {case:?}"),
         }
     };
-    After { number, places: places[..c.of().places].to_vec(), words, bytes }
+    After { number, places: places[..case.of().places].to_vec(), words, bytes }
 }
 
 /// Whether both make the same of a case. Of the judgement of a set only the kind is fixed and that its buffer holds one of that kind, then zeros.

@@ -45,6 +45,7 @@ fn needed(call: u16, s: Params) -> (Vec<usize>, usize) {
         14 | 20 => (vec![d, d], 6 + 4 * d),
         16 | 22 => (vec![], 8),
         18 => (vec![], 10 + 2 * all),
+        24 => (vec![], 0),
         _ => (vec![], 10),
     }
 }
@@ -84,7 +85,7 @@ fn sizes(r: &mut Random, cases: &mut Vec<Case>) {
         cases.push(blank(call, params(257, 1, 1, 65535)));
     }
     let near = (0..24).chain(247..262).chain(65516..=65535).chain([127, 128, 509, 514, 1792, 32768, 64257]);
-    cases.extend(near.map(|p| blank(24, params(p, 0, 0, 0))).map(|c| Case { bytes: vec![], ..c }));
+    cases.extend(near.map(|p| blank(24, params(p, 0, 0, 0))));
 }
 
 /// Every slice of every call shorter and longer by one, and empty.
@@ -353,6 +354,17 @@ fn records(r: &mut Random, cases: &mut Vec<Case>) {
             }
         }
     }
+    // the last holder and column of the largest sizes, and one past them
+    let s = params(251, 8, 8, 32);
+    for i in [31, 32] {
+        for mut record in [Draw::with(r, s, POINTS).record(DL), vec![PV, 1, i, 0, 5], vec![PV, 1, 0, i, 5], vec![VD, 1, i, 1], vec![SH, 1, i, i - 24, 5]] {
+            if record[0] == DL {
+                record[2] = i;
+            }
+            both(r, s, &record, cases);
+        }
+    }
+    both(r, s, &[SH, 1, 31, 8, 5], cases);
     // elements over every field, first and last
     for p in PRIMES {
         let s = params(p, 1, 1, 2);
