@@ -500,6 +500,7 @@ fn write(s: Params, words: &[u16], mut f: Faults, out: &mut [u8]) -> Answer {
     given(&[])
 }
 
+/// SU: the setup's numbers and its matrix.
 pub fn write_setup(s: Params, m: &[u16], out: &mut [u8]) -> Answer {
     let mut f = Faults(vec![]);
     f.length(m, s.entries());
@@ -507,6 +508,7 @@ pub fn write_setup(s: Params, m: &[u16], out: &mut [u8]) -> Answer {
     write(s, &[&[SU, s.p, s.l, s.e, s.n], m].concat(), f, out)
 }
 
+/// DL: a holder's part of a dealing.
 pub fn write_dealing(s: Params, dealing: u16, holder: u16, g: &[u16], h: &[u16], out: &mut [u8]) -> Answer {
     let mut f = dealing_faults(&s, dealing, holder, g, h);
     f.length(g, s.d());
@@ -514,14 +516,17 @@ pub fn write_dealing(s: Params, dealing: u16, holder: u16, g: &[u16], h: &[u16],
     write(s, &[&[DL, dealing, holder], g, h].concat(), f, out)
 }
 
+/// PV: the value that one holder sends another.
 pub fn write_pair_value(s: Params, dealing: u16, from: u16, to: u16, value: u16, out: &mut [u8]) -> Answer {
     write(s, &[PV, dealing, from, to, value], pair_faults(&s, [dealing, from, to, value]), out)
 }
 
+/// VD: a holder's verdict, 1 accept or 0 reject.
 pub fn write_verdict(s: Params, dealing: u16, holder: u16, verdict: u16, out: &mut [u8]) -> Answer {
     write(s, &[VD, dealing, holder, verdict], verdict_faults(&s, [dealing, holder, verdict]), out)
 }
 
+/// SH: a holder's share of a column, or of a combination under the dealing number 0.
 pub fn write_share(s: Params, dealing: u16, holder: u16, column: u16, value: u16, out: &mut [u8]) -> Answer {
     write(s, &[SH, dealing, holder, column, value], share_faults(&s, [dealing, holder, column, value]), out)
 }
@@ -595,6 +600,7 @@ fn read(lent: Faults, part: &[u8], wanted: u16, rest: impl FnOnce() -> Result<Ve
     answer(lent.check().and_then(|()| expect(part, wanted)).and_then(|()| rest()))
 }
 
+/// The dealing number and holder of a DL, with its g and h.
 pub fn read_dealing(s: Params, part: &[u8], g: &mut [u16], h: &mut [u16]) -> Answer {
     let mut lent = Faults::of(&s);
     lent.length(g, s.d());
@@ -607,6 +613,7 @@ pub fn read_dealing(s: Params, part: &[u8], g: &mut [u16], h: &mut [u16]) -> Ans
     })
 }
 
+/// The four fields of a PV.
 pub fn read_pair_value(s: Params, part: &[u8]) -> Answer {
     read(Faults::of(&s), part, PV, || {
         let x = fields(part)?;
@@ -615,6 +622,7 @@ pub fn read_pair_value(s: Params, part: &[u8]) -> Answer {
     })
 }
 
+/// The three fields of a VD.
 pub fn read_verdict(s: Params, part: &[u8]) -> Answer {
     read(Faults::of(&s), part, VD, || {
         let x = fields(part)?;
@@ -623,6 +631,7 @@ pub fn read_verdict(s: Params, part: &[u8]) -> Answer {
     })
 }
 
+/// The four fields of an SH.
 pub fn read_share(s: Params, part: &[u8]) -> Answer {
     read(Faults::of(&s), part, SH, || {
         let x = fields(part)?;
@@ -656,12 +665,14 @@ fn mark_in_place(part: &[u8], place: &[u16], seen: &[u16]) -> Result<u16, u16> {
     }
 }
 
+/// The SU of a file, entries and all.
 fn first_record(part: &[u8]) -> Result<(Params, Vec<u16>), u16> {
     mark_in_place(part, &[SU], &[])?;
     let (s, m) = setup_fields(part)?;
     if m.iter().any(|&x| x >= s.p) { Err(4) } else { Ok((s, m)) }
 }
 
+/// The DL of a file: a holder that has received nothing yet.
 fn second_record(s: Params, m: Vec<u16>, part: &[u8]) -> Result<Holder, u16> {
     mark_in_place(part, &[DL], &[SU])?;
     let (dealing, holder, g, h) = dealing_fields(&s, part)?;
