@@ -3,7 +3,7 @@
 use reference::*;
 use std::fmt::Write;
 
-/// The slice of bytes of a call: none, one that is read and stands before the slices of words, or one that is written and stands behind them.
+/// The slice of bytes of a call: none, one that is read, or one that is written.
 #[derive(Clone, Copy, PartialEq)]
 pub enum Bytes {
     None,
@@ -64,7 +64,7 @@ pub const FILE: u16 = 12;
 pub const UNTOUCHED: u16 = 7777;
 
 /// A call by its number in CALLS, its numbers and its slices. The numbers are p, ℓ, e, n; then a holder, a set's low and high half and a position, or
-/// the fields of a record to be written. The slices are in the order of the call's parameters.
+/// the fields of a record to be written. The slices of words are in the order of the call's parameters.
 #[derive(Clone, Debug)]
 pub struct Case {
     pub call: u16,
@@ -97,21 +97,14 @@ impl Case {
         (self.numbers[4], self.numbers[5]) = (set as u16, (set >> 16) as u16);
     }
 
-    /// The call, its numbers, the lengths of five slices, then the slices; 16-bit words, low byte first, and bytes as they are.
+    /// The call, its numbers, the lengths of five slices of words and of one of bytes, then those slices; 16-bit words, low byte first, and bytes as they
+    /// are.
     pub fn stored(&self) -> Vec<u8> {
-        let mut slices: Vec<(usize, Vec<u8>)> = self.words.iter().map(|x| (x.len(), bytes(x))).collect();
-        let lent = (self.bytes.len(), self.bytes.clone());
-        match self.of().bytes {
-            Bytes::None => {}
-            Bytes::Read => slices.insert(0, lent),
-            Bytes::Written => slices.push(lent),
-        }
-        let mut header = vec![self.call];
-        header.extend(self.numbers);
-        header.extend((0..5).map(|k| slices.get(k).map_or(0, |x| x.0 as u16)));
-        let mut all = bytes(&header);
-        all.extend(slices.iter().flat_map(|x| &x.1));
-        all
+        let mut head = vec![self.call];
+        head.extend(self.numbers);
+        head.extend((0..5).map(|k| self.words.get(k).map_or(0, |x| x.len() as u16)));
+        head.push(self.bytes.len() as u16);
+        [bytes(&head), bytes(&self.words.concat()), self.bytes.clone()].concat()
     }
 
     /// What the reference makes of it.
