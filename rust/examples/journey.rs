@@ -75,7 +75,7 @@ pub fn main() -> Result<(), Refusal> {
     println!("judged: all {HOLDERS} accept");
 
     // Everyone accepts, so everyone keeps its four shares.
-    let mut shares = vec![[0; 4]; 16];
+    let mut shares = [[0; 4]; 16];
     for i in 0..HOLDERS {
         assert_eq!(SETUP.outcome(part(&gs, i), &said, &mut shares[i as usize])?, Outcome::Kept);
     }
