@@ -323,11 +323,11 @@ never-both p P k d l A q m n r t h S =
     (record { zeros = S .zeros; there = λ e. omega (arith, sym e ∙ S .first q m ∙ ap (λ z. z % p) (unit-same q) ∙ mod-eq-of-lt (P .big)) })
 
 module _ (l e : ℕ) (A : ℕ → ℕ → ℕ) where
-  turned-left : (i j : ℕ) → j < e → turned l e A i j ≡ A i (l + j)
+  pub turned-left : (i j : ℕ) → j < e → turned l e A i j ≡ A i (l + j)
   unfolding turned
   turned-left i j h = rw (lt-ltb j e h)
 
-  turned-right : (i q : ℕ) → turned l e A i (e + q) ≡ A i q
+  pub turned-right : (i q : ℕ) → turned l e A i (e + q) ≡ A i q
   unfolding turned
   turned-right i q = rw (le-ltb (e + q) e (omega arith)) (ap (A i) (omega arith))
 

@@ -1,24 +1,22 @@
--- From a loaded buffer to the answer of an opening: what the walk lists are the set's members, the reduced buffer shows their system, and what is
--- read off it is a certificate for what the definitions search.
+-- From a loaded buffer to the answer of an opening: the reduced buffer shows the system of the members' rows beside the shares, and what is read off it
+-- is a certificate for what the definitions search.
 use mathlib.Core.Path.{_≡_, refl, sym, ap, _∙_}
 use mathlib.Core.Bool.{Bool, true, false, not, false≢true}
 use mathlib.Core.List.{List, []}
 use Prim.Native.Nat.{ℕ, _+_, _*_, _%_, _≤_, _<_}
-use native.Mathlib.Nat.{mod-eq-of-lt, mul-le-mul}
+use native.Mathlib.Nat.{zero-add, mod-eq-of-lt, mul-le-mul}
 use native.Mathlib.Omega.{arith}
-use lib.Dec.{leb, ltb}
-use lib.ListN.{length, take, replicate, length-replicate, getD-replicate}
-use lib.Seq.{length-take-le, getD-take}
+use lib.Dec.{ltb}
+use lib.ListN.{length, getD, set, take, getD-replicate}
+use lib.Seq.{getD-take}
 use borrow.Author.Tests.{lt-ltb, le-ltb, not-false}
 use Rattle.base.specs.Choice.{pick}
 use Rattle.base.specs.Rules.{given}
 use Rattle.base.specs.Search.{every, first, Vec}
-use Rattle.base.specs.Fill.{tab}
+use Rattle.base.specs.Fill.{tab, filled}
 use Rattle.base.specs.Matrix.{entry, flat}
 use Rattle.base.proofs.Search.{first-ext, missing-all, found-there, every-at, every-all}
 use Rattle.base.proofs.Fill.{tab-ext}
-use Rattle.base.proofs.Matrix.{row-fits}
-use Rattle.field.specs.Prime.{Prime}
 use Rattle.linear.specs.Dot.{at, dot}
 use Rattle.linear.specs.Elimination.{State, reduced, shown, fixes, flatShown, flatUnsolved, Shows, Beside, solvable, refuted, Position, fixed, free}
 use Rattle.linear.specs.Contracts.{buffers, Fits, Ready, Reduction}
@@ -27,49 +25,30 @@ use Rattle.linear.proofs.Reduced.{beside, determined, shown-small}
 use Rattle.linear.proofs.Flat.{fixes-shows, unsolved-shows, shown-shows}
 use Rattle.scheme.specs.Setup.{Setup, dim}
 use Rattle.scheme.specs.Answers.{undetermined, inconsistent}
-use Rattle.scheme.specs.Sets.{holds, members, hasRow, determines, isPrivate}
+use Rattle.scheme.specs.Sets.{holds, members, hasRow, determines}
 use Rattle.scheme.specs.Opening.{opening}
-use Rattle.scheme.proofs.Calls.{SetOk, limits-prime, below-vec}
-use Rattle.scheme.proofs.Members.{member-at, members-le, members-wide}
+use Rattle.scheme.proofs.Calls.{SetOk}
 use Rattle.scheme.proofs.Sets.{rows}
 use Rattle.scheme.proofs.Certificates.{row-in-hand, no-row, opened-by, inconsistent-in-hand}
+use Rattle.sets.specs.Contracts.{membersOf, Walked, Fresh, laid}
+use Rattle.sets.proofs.Load.{row-part, row-last, loaded-ready, reduced-loaded}
+use Rattle.sets.proofs.Members.{prime-of, wide, narrow, entry-small, counted, listed, zeros, part-size}
 use Rattle.opening.specs.Systems as systems
 use Rattle.opening.specs.Systems.{lacking}
-use Rattle.opening.specs.Contracts.{membersOf, Walked, Lie, Fresh, Eliminated, OpenedAs}
-use Rattle.opening.proofs.Load.{loaded-ready, reduced-loaded}
+use Rattle.opening.specs.Contracts.{Eliminated, OpenedAs}
 
--- a set in order
-module _ (S : Setup) (s : ℕ) (ok : SetOk S s) where
-  pub prime-of : Prime (S .p)
-  prime-of = limits-prime S (ok .setup .limits)
+-- THE ROWS BESIDE THE SHARES
+pub beside-row : (d : ℕ) (m ms xs : List ℕ) (i from : ℕ) (x a : List ℕ) → from ≡ at ms i * d → a ≡ filled (flat (d + 1) (systems.beside d m ms xs)) (i * (d + 1)) x
+    → set (laid (λ j. getD m (from + j) 0) (i * (d + 1)) d a) (i * (d + 1) + d) (at xs i) ≡ filled (flat (d + 1) (systems.beside d m ms xs)) ((i + 1) * (d + 1)) x
+unfolding systems.beside
+beside-row d m ms xs i from x a s e =
+    let G = systems.beside d m ms xs in
+    row-last (d + 1) G i d (i * (d + 1) + d) x _ refl
+    (row-part (d + 1) G i 0 (i * (d + 1)) x a (omega arith) e (λ j. getD m (from + j) 0) d (omega arith)
+    (λ j l. rw (zero-add j, lt-ltb j d l, s) refl))
+    (at xs i) refl (rw (le-ltb d d (omega arith)) refl)
 
-  pub wide : members 32 (holds s) ≡ membersOf S s
-  wide = members-wide (S .n) 32 s (ok .inside) (ok .setup .limits .holders .1)
-
-  pub few : length (membersOf S s) ≤ 32
-  few = omega (arith, members-le (S .n) (holds s), ok .setup .limits .holders)
-
-  pub narrow : dim S ≤ 16
-  narrow = omega (arith, ok .setup .limits .secret, ok .setup .limits .random)
-
-  pub row-inside : (i : ℕ) → i < length (membersOf S s) → at (membersOf S s) i * dim S + dim S ≤ length (S .M)
-  row-inside i l = omega (arith, row-fits (S .n) (dim S) (at (membersOf S s) i) (member-at (S .n) (holds s) i l .0), ok .setup .matrix .size)
-
-  pub entry-small : (i j : ℕ) → entry (dim S) (S .M) i j < S .p
-  entry-small i j = below-vec (S .p) _ (S .M) (omega (arith, prime-of .big)) (ok .setup .matrix) (i * dim S + j)
-
--- what the walk lists
 module _ (S : Setup) (s : ℕ) (ok : SetOk S s) (k d : ℕ) (out : List ℕ) (W : Walked s k out) (D : d ≡ dim S) where
-  pub counted : k ≡ length (membersOf S s)
-  counted = W .count ∙ ap length (wide S s ok)
-
-  pub listed : take k out ≡ membersOf S s
-  listed = W .list ∙ wide S s ok
-
-  pub lie : Lie d (S .M) (take k out)
-  lie = record { rows = rw (D, listed) (row-inside S s ok) }
-
-  -- THE ROWS BESIDE THE SHARES
   pub beside-asks : (xs : List ℕ) → Vec (S .p) (length (members 32 (holds s))) xs → (x u : List ℕ) → Fresh (length (members 32 (holds s))) (dim S + 1) x u
       → (d ≤ 16) × (length (take k out) ≡ length xs) × (length x ≡ length (take k out) * (d + 1))
   beside-asks xs v x u room = rw (W .list, D) (narrow S s ok, sym (v .size), room .size)
@@ -81,7 +60,7 @@ module _ (S : Setup) (s : ℕ) (ok : SetOk S s) (k d : ℕ) (out : List ℕ) (W 
     room′ = rw (wide S s ok) at room
 
     loaded′ : a ≡ tab (length x) (flat (dim S + 1) (systems.beside (dim S) (S .M) (membersOf S s) xs))
-    loaded′ = rw (D, listed) at loaded
+    loaded′ = rw (D, listed S s ok k d out W D) at loaded
 
     small : (i j : ℕ) → i < length (membersOf S s) → j < dim S + 1 → systems.beside (dim S) (S .M) (membersOf S s) xs i j < S .p
     unfolding systems.beside
@@ -93,13 +72,13 @@ module _ (S : Setup) (s : ℕ) (ok : SetOk S s) (k d : ℕ) (out : List ℕ) (W 
 
     pub beside-ready : Ready (S .p) k (d + 1) a u
     beside-ready =
-        rw (D, counted) (loaded-ready (S .p) (length (membersOf S s)) (dim S + 1) (prime-of S s ok) _ small x a u room′ loaded′ (omega (arith, narrow S s ok)))
+        rw (D, counted S s ok k d out W D) (loaded-ready (S .p) (length (membersOf S s)) (dim S + 1) (prime-of S s ok) _ small x a u room′ loaded′ (omega (arith, narrow S s ok)))
 
     pub beside-shows : (b w : List ℕ) → Reduction (S .p) k (d + 1) d a u b w
         → Shows (S .p) (length (membersOf S s)) (dim S + 1) (buffers b w)
         (reduced (S .p) (length (membersOf S s)) (dim S) (systems.beside (dim S) (S .M) (membersOf S s) xs))
     beside-shows b w r =
-        reduced-loaded (S .p) (length (membersOf S s)) (dim S + 1) (prime-of S s ok) _ small x a u room′ loaded′ (dim S) (omega arith) b w (rw (D, counted) at r)
+        reduced-loaded (S .p) (length (membersOf S s)) (dim S + 1) (prime-of S s ok) _ small x a u room′ loaded′ (dim S) (omega arith) b w (rw (D, counted S s ok k d out W D) at r)
 
 -- THE OPENING
 -- the lowest position with no row
@@ -250,27 +229,9 @@ determines-not S X r e l = go (every (S .l) (hasRow S X)) refl
         absurd (false≢true (sym (ap not (every-at (S .l) (hasRow S X) d r l))
         ∙ rw e (found-there (λ q. not (hasRow S X q)) (S .l) (rw e at l))))
 
-pub private-by : (S : Setup) (s : ℕ) → SetOk S s → (r : ℕ) → r ≡ length (members 32 (holds s)) → isPrivate S (holds s) ≡ leb r (S .e)
-unfolding isPrivate
-private-by S s ok r e = ap (λ k. leb k (S .e)) (sym (e ∙ ap length (wide S s ok)))
-
 -- LOCAL BUFFERS
 pub room-fits : (k d : ℕ) → k ≤ 32 → d ≤ 16 → k * (d + 1) ≤ 544
 room-fits k d a b = omega (arith, mul-le-mul a (let h : d + 1 ≤ 17 = omega arith in h))
-
--- n zeros
-abbrev zeros : ℕ → List ℕ
-zeros n = replicate n 0
-
-pub part-size : (k n : ℕ) → k ≤ n → k ≡ length (take k (zeros n))
-part-size k n l = sym (length-take-le k (zeros n) (omega (arith, length-replicate {A = ℕ} n 0)))
-
-pub fresh : (R W n m : ℕ) → R * W ≤ n → R ≤ m → Fresh R W (take (R * W) (zeros n)) (take R (zeros m))
-fresh R W n m a b = record {
-  size = sym (part-size (R * W) n a);
-  marks = sym (part-size R m b);
-  unused = λ i l. getD-take R (zeros m) i 0 l ∙ getD-replicate {A = ℕ} m i 0 0 (omega arith);
-}
 
 pub zeros-vec : (p k n : ℕ) → 0 < p → k ≤ n → Vec p k (take k (zeros n))
 zeros-vec p k n pos l = record {

@@ -1,4 +1,2 @@
-pub mod Load
 pub mod Answer
-pub mod Judge
 pub mod Back

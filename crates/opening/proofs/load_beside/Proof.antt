@@ -9,8 +9,9 @@ use Rattle.base.proofs.Matrix.{row-fits}
 use Rattle.base.proofs.Fill.{filled-none}
 use Rattle.base.specs.Matrix.{flat}
 use Rattle.base.specs.Fill.{filled}
+use Rattle.sets.proofs.Load.{length-laid, loaded-whole}
 use Rattle.opening.specs.Systems.{beside}
-use Rattle.opening.proofs.Load.{length-laid, beside-row, loaded-whole}
+use Rattle.opening.proofs.Answer.{beside-row}
 use Rattle.opening.proofs.load_beside.Statement.{statement}
 use Rattle.opening.proofs.load_beside.Tie as tie
 

@@ -8,7 +8,8 @@ use Rattle.scheme.proofs.Members.{members-le}
 use Rattle.scheme.specs.Sets.{holds}
 use Rattle.scheme.proofs.Calls.{declined, unchanged, open-ok}
 use Rattle.scheme.specs.Setup.{setupOf}
-use Rattle.opening.proofs.Answer.{narrow, room-fits, part-size, fresh}
+use Rattle.sets.proofs.Members.{narrow, part-size, fresh}
+use Rattle.opening.proofs.Answer.{room-fits}
 use Rattle.opening.proofs.open.Statement.{statement}
 use Rattle.opening.proofs.open.Tie as tie
 

@@ -1,0 +1,33 @@
+-- What the openings and the judgement of a set share: the members of a set, their rows in the matrix, and the buffers that a system is written into.
+-- membersOf: the members of the set s, by rising holder
+-- Walked: the members stand at the start of the list, k of them
+-- Lie: the members' rows lie in the matrix
+-- Fresh: buffers for R rows of W entries, no row used
+-- laid: the list a with f 0, .., f (n - 1) written from place t on
+use mathlib.Core.Path.{_≡_}
+use mathlib.Core.List.{List}
+use Prim.Native.Nat.{ℕ, zero, suc, _+_, _*_, _≤_, _<_}
+use lib.ListN.{length, set, take}
+use Rattle.linear.specs.Dot.{at}
+use Rattle.scheme.specs.Setup.{Setup}
+use Rattle.scheme.specs.Sets.{holds, members}
+
+abbrev pub membersOf : Setup → ℕ → List ℕ
+membersOf S s = members (S .n) (holds s)
+
+pub record Walked (s k : ℕ) (out : List ℕ) : Type 0 where
+  pub count : k ≡ length (members 32 (holds s))
+  pub fits : k ≤ length out
+  pub list : take k out ≡ members 32 (holds s)
+
+pub record Lie (d : ℕ) (m ms : List ℕ) : Type 0 where
+  pub rows : (i : ℕ) → i < length ms → at ms i * d + d ≤ length m
+
+pub record Fresh (R W : ℕ) (a u : List ℕ) : Type 0 where
+  pub size : length a ≡ R * W
+  pub marks : length u ≡ R
+  pub unused : (i : ℕ) → i < R → at u i ≡ 0
+
+unfoldable pub laid : (ℕ → ℕ) → ℕ → ℕ → List ℕ → List ℕ
+laid f t zero a = a
+laid f t (suc n) a = set (laid f t n a) (t + n) (f n)
