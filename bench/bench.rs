@@ -18,32 +18,36 @@ use measure::Table;
 const TURN: usize = 16;
 
 fn main() {
-    println!("{:40} {:>10} {:>10} {:>7}", "call", "ours ns", "ref. ns", "ratio");
+    // Words on the command line choose parts: calls, peers, collection, growth.
+    let chosen: Vec<String> = std::env::args().skip(1).collect();
+    let wanted = |part: &str| chosen.is_empty() || chosen.iter().any(|x| x == part);
     let mut t = Table { slower: vec![], measures: 0, highest: (0.0, String::new()) };
-    calls::field(&mut t);
-    for (p, l, e, n) in [(2, 4, 3, 16), (7, 1, 1, 3), (251, 4, 3, 16), (257, 4, 3, 16), (65521, 8, 8, 32)] {
-        println!("p {p}, l {l}, e {e}, n {n}");
-        let w = World::new(p, l, e, n);
-        calls::calls(&mut t, &w);
-        records::records(&mut t, &w);
+    let mut targets = vec![];
+    if wanted("calls") {
+        println!("{:40} {:>10} {:>10} {:>7}", "call", "ours ns", "ref. ns", "ratio");
+        calls::field(&mut t);
+        for (p, l, e, n) in [(2, 4, 3, 16), (7, 1, 1, 3), (251, 4, 3, 16), (257, 4, 3, 16), (65521, 8, 8, 32)] {
+            println!("p {p}, l {l}, e {e}, n {n}");
+            let w = World::new(p, l, e, n);
+            calls::calls(&mut t, &w);
+            records::records(&mut t, &w);
+        }
     }
-    let mut targets = peers::peers();
-    collection::collection(&mut targets);
-    collection::growth();
+    if wanted("peers") {
+        peers::peers(&mut targets);
+    }
+    if wanted("collection") {
+        collection::collection(&mut targets);
+    }
+    if wanted("growth") {
+        collection::growth();
+    }
 
-    println!();
-    println!("targets");
-    let calls = format!("no call slower than the reference (ratio at most 1.05), {} measures", t.measures);
-    if t.slower.is_empty() {
-        println!("{calls}: reached; the highest is {:.3}, {}", t.highest.0, t.highest.1);
-    } else {
-        println!("{calls}: not reached: {} above: {}", t.slower.len(), t.slower.join("; "));
+    println!("\ntargets");
+    if wanted("calls") {
+        t.verdict();
     }
     for x in targets {
-        match x.ratio {
-            None => println!("{}: not measured, the peer is not here", x.words),
-            Some(r) if r <= x.most => println!("{}: reached, {r:.3}", x.words),
-            Some(r) => println!("{}: not reached: {r:.3}, target {}", x.words, x.most),
-        }
+        x.verdict();
     }
 }

@@ -87,6 +87,17 @@ impl Table {
     }
 }
 
+impl Table {
+    pub fn verdict(&self) {
+        let words = format!("no call slower than the reference (ratio at most 1.05), {} measures", self.measures);
+        if self.slower.is_empty() {
+            println!("{words}: reached, {:.3} at most ({})", self.highest.0, self.highest.1);
+        } else {
+            println!("{words}: not reached: {} of them: {}", self.slower.len(), self.slower.join("; "));
+        }
+    }
+}
+
 /// FNV-1a.
 pub fn digest(number: u16, values: &[u16]) -> u64 {
     [number].iter().chain(values).fold(0xcbf29ce484222325, |h, &x| (h ^ x as u64).wrapping_mul(0x100000001b3))
@@ -114,6 +125,16 @@ pub struct Target {
     pub words: String,
     pub ratio: Option<f64>,
     pub most: f64,
+}
+
+impl Target {
+    pub fn verdict(&self) {
+        match self.ratio {
+            None => println!("{}: not measured, the peer is not here", self.words),
+            Some(r) if r <= self.most => println!("{}: reached, {r:.3}", self.words),
+            Some(r) => println!("{}: not reached: {r:.3}, target {}", self.words, self.most),
+        }
+    }
 }
 
 pub fn target(words: &str, ratio: Option<f64>, most: f64) -> Target {

@@ -17,12 +17,11 @@ unsafe extern "C" {
     fn flint_reduce_16(matrix: *const u16, shares: *const u16, secrets: *mut u16) -> i32;
 }
 
-pub fn peers() -> Vec<Target> {
+pub fn peers(targets: &mut Vec<Target>) {
     let w = &board();
     let (s, m) = (w.s, &w.m[..]);
     let bytes: Vec<Vec<u8>> = w.deals.iter().map(|x| x.secrets.iter().map(|&v| v as u8).collect()).collect();
     let (gfshare, flint) = unsafe { (gfshare_here() == 1, flint_here() == 1) };
-    let mut targets = vec![];
 
     println!();
     println!("one board key (p 257, l 4, e 3, n 16) against the peers, ns");
@@ -112,12 +111,17 @@ pub fn peers() -> Vec<Target> {
             race.with("FLINT's rref", move |k, _| reduce(k, &mut key) as u64);
         }
         race.run(&format!("opening a key by {count}, as four openings"));
-        // Against the faster of FLINT's two ways.
-        let highest = race.ratio("FLINT").map(|x| x.max(race.ratio("FLINT's rref").unwrap_or(x)));
-        targets.push(target(&format!("opening a key by {count}: no slower than FLINT's one solve with four right sides"), highest, 1.0));
+        targets.push(target(
+            &format!("opening a key by {count}: no slower than FLINT's one solve with four right sides"),
+            race.ratio("FLINT"),
+            1.0,
+        ));
+        if count == 16 {
+            // FLINT's solve is not its fastest way for rows that are not square.
+            targets.push(target("opening a key by 16: no slower than FLINT's rref of rows and shares", race.ratio("FLINT's rref"), 1.0));
+        }
         if let Some(x) = race.ratio("libgfshare") {
             println!("recorded: libgfshare's combine, which verifies nothing: ours takes {x:.1} times as long");
         }
     }
-    targets
 }

@@ -1,5 +1,5 @@
 /* Calls that work on secrets, run under valgrind by bench/secrets:
- *   secrets draw P SEED                     writes secret entries below P (seed 0: all 0; seed 1: all P - 1)
+ *   secrets draw P SEED                     writes secret entries below P (seed 0: all 0; seed 1: all P - 1; seed 99: the first is P, to be refused)
  *   secrets CALL P L E N UNDEFINED          reads them and makes the call, with so many low bits of each entry marked undefined
  * The calls `branching` and `indexing` leak on purpose: bench/secrets must notice both. */
 #include <stdint.h>
@@ -77,6 +77,8 @@ static void draw(uint16_t p, uint64_t seed)
         state = state * 6364136223846793005u + 1442695040888963407u;
         secret[k] = seed == 0 ? 0 : seed == 1 ? p - 1 : (uint16_t)((state >> 33) % p);
     }
+    if (seed == 99)
+        secret[0] = p;
     fwrite(secret, 2, MOST, stdout);
 }
 
@@ -107,7 +109,9 @@ int main(int count, char **words)
         mark((unsigned)atoi(words[6]));
     for (size_t k = 0; k < sizeof calls / sizeof *calls; k++)
         if (strcmp(words[1], calls[k].name) == 0) {
+            VALGRIND_PRINTF("call begins\n");
             uint16_t refused = calls[k].run();
+            VALGRIND_PRINTF("call ends\n");
             (void)VALGRIND_MAKE_MEM_DEFINED(&refused, sizeof refused);
             return refused != 0;
         }
