@@ -1,17 +1,23 @@
--- The laws of the points matrix as it is worked out.
+-- The laws of the points matrix as it is worked out, and of the table of its call without the last rule.
 use Prim.Native.Nat.{ℕ, zero, suc, _+_, _*_, _/_, _%_, _≤_, _<_}
 use mathlib.Core.Path.{_≡_, refl, _∙_}
+use mathlib.Core.Bool.{Bool}
 use mathlib.Core.List.{[]}
 use native.Mathlib.Nat.{mod-lt, mul-zero, div-lt-iff-lt-mul}
 use native.Mathlib.Numerals.{add-one}
 use native.Mathlib.Omega.{arith}
-use lib.Dec.{eqb}
-use lib.ListN.{getD}
+use lib.Dec.{eqb, ltb}
+use lib.ListN.{length, getD}
 use Rattle.base.specs.Choice.{pick}
+use Rattle.base.specs.Rules.{orWhen, refusal}
+use Rattle.base.proofs.Rules.{clear}
 use Rattle.base.proofs.Fill.{getD-filled}
 use Rattle.field.proofs.Congruence.{mul-mod-mod, mod-mul-mod}
 use Rattle.linear.specs.Polynomial.{minus, basis, point}
-use Rattle.dealing.specs.Grid.{zeros, zeroRows, pointsRow, pointsRows}
+use Rattle.scheme.specs.Setup.{Setup, dim, Limits}
+use Rattle.scheme.specs.Calls.{pointsRules}
+use Rattle.scheme.proofs.Calls.{limits-of, size-is}
+use Rattle.dealing.specs.Grid.{zeros, zeroRows, pointsRow, pointsRows, pointsSizes}
 
 -- a basis begins at 1 and takes one factor more, reduced
 pub basis-none : (p j : ℕ) (a : ℕ → ℕ) (x : ℕ) → basis p 0 j a x ≡ 1
@@ -33,3 +39,18 @@ rows-at p d n i j hd hn hi hj =
 pub place-at : (d n t : ℕ) → t < n * d → (0 < d) × (t / d < n) × (t % d < d)
 place-at zero n t h = absurd (omega (arith, mul-zero n))
 place-at (suc d) n t h = (omega arith, div-lt-iff-lt-mul {k = suc d} {x = t} {y = n} (omega arith) .1 h, mod-lt t (omega arith))
+
+-- a number that stands is not lowered by a later rule
+pub not-lowered : (r k : ℕ) (b : Bool) → r ≤ orWhen r k b
+not-lowered zero k b = omega arith
+not-lowered (suc r) k b = omega arith
+
+pub sizes-ok : (S : Setup) → refusal (pointsSizes S) ≡ 0 → Limits S × (length (S .M) ≡ S .n * dim S)
+sizes-ok S e =
+    let c = clear (pointsSizes S) tt e in
+    (limits-of S (c .0) (c .1 .0) (c .1 .1 .0) (c .1 .1 .1 .0), size-is (S .M) _ (c .1 .1 .1 .1 .0))
+
+-- the rules up to 3, and then 15, are the whole table
+pub whole-table : (S : Setup) (early r d : ℕ) → early ≡ refusal (pointsSizes S) → d ≡ dim S → r ≡ orWhen early 15 (ltb (S .p) (d + S .n))
+    → r ≡ refusal (pointsRules S)
+whole-table S early r d a b c = rw (c, a, b) refl

@@ -1,12 +1,16 @@
--- The points matrix as a local array of 32 rows of 16 entries holds it: what is not used stays 0.
+-- The points matrix as a local array of 32 rows of 16 entries holds it: what is not used stays 0; and the rules of its call up to 3.
 -- zeros, zeroRows: a row and the rows as they begin
 -- pointsRow: row i with its d entries
 -- pointsRows: the first n rows
-use Prim.Native.Nat.{ℕ}
-use mathlib.Core.List.{List}
+-- pointsSizes: the table of `points` without its last rule, 15
+use Prim.Native.Nat.{ℕ, _*_}
+use mathlib.Core.List.{List, [], _∷_, _++_}
 use lib.ListN.{replicate}
 use Rattle.base.specs.Fill.{filled}
+use Rattle.base.specs.Rules.{Rule}
 use Rattle.linear.specs.Polynomial.{point}
+use Rattle.scheme.specs.Setup.{Setup, dim}
+use Rattle.scheme.specs.Calls.{limits, size}
 
 unfoldable pub zeros : List ℕ
 zeros = replicate 16 0
@@ -19,3 +23,6 @@ pointsRow p d i = filled (point p d i) d zeros
 
 unfoldable pub pointsRows : ℕ → ℕ → ℕ → List (List ℕ)
 pointsRows p d n = filled (pointsRow p d) n zeroRows
+
+abbrev pub pointsSizes : Setup → List Rule
+pointsSizes S = limits S ++ size (S .M) (S .n * dim S) ∷ []

@@ -1,22 +1,23 @@
 // The points matrix and dealing: the open calls. Each first works out its refusal by the table of scheme's specs/Calls.antt; where there is none it
 // works on inputs that are in order. The work neither branches on nor indexes by a secret or a random entry.
 ghost use mathlib.Core.Path.{_≡_};
+ghost use mathlib.Core.List.{[]};
 ghost use Prim.Native.Nat.{ℕ, _+_, _-_, _*_, _%_, _<_, _≤_};
 ghost use lib.Dec.{eqb};
 ghost use lib.ListN.{length};
 ghost use Rattle.base.specs.Choice.{pick};
-ghost use Rattle.base.specs.Rules.{refusal, refusalFrom};
+ghost use Rattle.base.specs.Rules.{refusal, refusalFrom, given};
 ghost use Rattle.base.specs.Fill.{filled};
 ghost use Rattle.base.specs.Matrix.{flat};
 ghost use Rattle.field.specs.Prime.{Prime};
 ghost use Rattle.linear.specs.Dot.{along};
 ghost use Rattle.linear.specs.Polynomial.{minus, basis, point};
 ghost use Rattle.scheme.specs.Setup.{setupOf};
-ghost use Rattle.scheme.specs.Answers.{paperWritten};
+ghost use Rattle.scheme.specs.Answers.{answerBy, paperWritten};
 ghost use Rattle.scheme.specs.Dealing.{dealtEntry};
-ghost use Rattle.scheme.specs.Calls.{pointsRules, pointsCall, pointsLeft, dealInputs, dealElements, dealRules, dealCall, dealLeftG, dealLeftH, dealAllRules, dealAllCall, dealAllLeftG, dealAllLeftH};
+ghost use Rattle.scheme.specs.Calls.{pointsCall, pointsLeft, dealInputs, dealElements, dealRules, dealCall, dealLeftG, dealLeftH, dealAllRules, dealAllCall, dealAllLeftG, dealAllLeftH};
 ghost use Rattle.dealing.specs.Put.{put};
-ghost use Rattle.dealing.specs.Grid.{pointsRow, pointsRows};
+ghost use Rattle.dealing.specs.Grid.{pointsRow, pointsRows, pointsSizes};
 ghost use Rattle.dealing.specs.Parts.{entryG, entryH, sized, DealtRoom, PartRoom};
 use scheme::Params;
 use scheme::Written;
@@ -101,25 +102,37 @@ fn write_points(p: u16, d: usize, n: usize, matrix: &mut [u16])
     }
 }
 
-fn points_refusal(s: Params, matrix: &[u16]) -> u16
-    ensures { λ r. ⌜ r ≡ refusal (pointsRules (setupOf s (now (matrix .entry)))) ⌝ }
+// Refusals 1 to 3 of `points`.
+fn points_sizes(s: Params, matrix: &[u16]) -> u16
+    ensures { λ r. ⌜ r ≡ refusal (pointsSizes (setupOf s (now (matrix .entry)))) ⌝ }
 {
     let a = scheme::limits_refusal(s);
-    let b = scheme::or_size(a, matrix.len(), scheme::matrix_len(s));
-    base::or_when(b, 15, (s.p as usize) < scheme::dim(s) + (s.n as usize))
+    scheme::or_size(a, matrix.len(), scheme::matrix_len(s))
 }
 
-// The points matrix into the lent matrix.
+// What a call that writes answers by its refusal.
+fn written(refusal: u16) -> Written
+    ensures { λ r. ⌜ paperWritten r ≡ answerBy refusal (given []) ⌝ }
+{
+    if refusal != 0 {
+        return Written::Refused(refusal);
+    }
+    Written::Done
+}
+
+// The points matrix into the lent matrix. Nothing is written before the last rule, 15, is known not to apply.
 pub fn points(s: Params, matrix: &mut [u16]) -> Written
     ensures { λ r. ⌜ paperWritten r ≡ pointsCall (setupOf s (now (matrix .entry))) ⌝ }
     ensures { λ _. ⌜ now (matrix .exit) ≡ pointsLeft (setupOf s (now (matrix .entry))) ⌝ }
 {
-    let refusal = points_refusal(s, matrix);
-    if refusal != 0 {
-        return Written::Refused(refusal);
+    let d = scheme::dim(s);
+    let early = points_sizes(s, matrix);
+    let refusal = base::or_when(early, 15, (s.p as usize) < d + (s.n as usize));
+    let answer = written(refusal);
+    if refusal == 0 {
+        write_points(s.p, d, s.n as usize, matrix);
     }
-    write_points(s.p, scheme::dim(s), s.n as usize, matrix);
-    Written::Done
+    answer
 }
 
 // F

@@ -236,10 +236,10 @@ pub fn solution(a: &[u16], used: &[u16], rows: usize, width: usize, b: usize, x:
     requires { ⌜ (b < width) × (length (now x) ≤ 64) ⌝ }
     ensures { λ _. ⌜ now (x .exit) ≡ tab (length (now (x .entry))) (flatShown rows width b (buffers (now (a .entry)) (now (used .entry)))) ⌝ }
 {
-    let mut j = 0;
-    while j < x.len() {
-        x[j] = shown(a, used, rows, width, b, j);
-        j += 1;
+    let mut place = 0;
+    while place < x.len() {
+        x[place] = shown(a, used, rows, width, b, place);
+        place += 1;
     }
 }
 

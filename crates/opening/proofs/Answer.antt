@@ -15,7 +15,7 @@ use Rattle.base.specs.Rules.{given}
 use Rattle.base.specs.Search.{every, first, Vec}
 use Rattle.base.specs.Fill.{tab, filled}
 use Rattle.base.specs.Matrix.{entry, flat}
-use Rattle.base.proofs.Search.{first-ext, missing-all, found-there, every-at, every-all}
+use Rattle.base.proofs.Search.{first-le, first-ext, missing-all, found-there, every-at, every-all}
 use Rattle.base.proofs.Fill.{tab-ext}
 use Rattle.linear.specs.Dot.{at, dot}
 use Rattle.linear.specs.Elimination.{State, reduced, shown, fixes, flatShown, flatUnsolved, Shows, Beside, solvable, refuted, Position, fixed, free}
@@ -182,6 +182,9 @@ module _ (S : Setup) (s : ℕ) (ok : SetOk S s) (k d : ℕ) (out : List ℕ) (W 
   eliminated r e =
       let h = beside-shows S s ok k d out W D xs v x u a room loaded b w red in
       record { shows = h; lowest = (rw (D, counted S s ok k d out W D) at e) ∙ lowest-is S s ok xs b w h }
+
+pub eliminated-le : (S : Setup) (s : ℕ) (xs a u : List ℕ) (r : ℕ) → Eliminated S s xs a u r → r ≤ S .l
+eliminated-le S s xs a u r E = rw (E .lowest) (first-le (λ q. not (hasRow S (holds s) q)) (S .l))
 
 -- THE ANSWERS OF THE CALLS
 as-lacking : (S : Setup) (s : ℕ) (xs out : List ℕ) (r : ℕ) → opening S (holds s) xs ≡ undetermined r → OpenedAs S s xs out (undetermined r) out

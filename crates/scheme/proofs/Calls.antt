@@ -64,7 +64,7 @@ pub below-vec : (p k : ℕ) (xs : List ℕ) → 0 < p → Vec p k xs → Below p
 below-vec p k xs pos v = below-by p xs pos (below-is p xs (λ i l. v .small i (omega (arith, v .size))))
 
 -- refusals 1 and 2
-limits-of : (S : Setup) → not (isField (S .p)) ≡ false → outside 1 8 (S .l) ≡ false → outside 1 8 (S .e) ≡ false → outside 1 32 (S .n) ≡ false → Limits S
+pub limits-of : (S : Setup) → not (isField (S .p)) ≡ false → outside 1 8 (S .l) ≡ false → outside 1 8 (S .e) ≡ false → outside 1 32 (S .n) ≡ false → Limits S
 limits-of S a b c d =
     record { field = not-false (isField (S .p)) a; secret = inside 1 8 (S .l) b; random = inside 1 8 (S .e) c; holders = inside 1 32 (S .n) d }
 

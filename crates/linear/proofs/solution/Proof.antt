@@ -12,10 +12,10 @@ use Rattle.linear.proofs.solution.Statement.{statement}
 use Rattle.linear.proofs.solution.Tie as tie
 
 abbrev Inv-loop : tie.InvT-loop
-Inv-loop a used rows width b x₀ j₀ x j = (j ≤ length x₀) × (length x ≡ length x₀) × (x ≡ filled (flatShown rows width b (buffers a used)) j x₀)
+Inv-loop a used rows width b x₀ place₀ x place = (place ≤ length x₀) × (length x ≡ length x₀) × (x ≡ filled (flatShown rows width b (buffers a used)) place x₀)
 
 abbrev μ-loop : tie.MeasureT-loop
-μ-loop a used rows width b x₀ j₀ x j = length x₀ - j
+μ-loop a used rows width b x₀ place₀ x place = length x₀ - place
 
 loop-holds : tie.Need-loop-holds Inv-loop μ-loop
 loop-holds c = (search needs, refl, filled-none _ _)
@@ -29,8 +29,8 @@ mul-x c = search needs
 slice-write-x : tie.Need-slice-write-x Inv-loop μ-loop
 slice-write-x c = search needs
 
-add-j : tie.Need-add-j Inv-loop μ-loop
-add-j c = search needs
+add-place : tie.Need-add-place Inv-loop μ-loop
+add-place c = search needs
 
 loop-less : tie.Need-loop-less Inv-loop μ-loop
 loop-less c = search needs
@@ -39,7 +39,7 @@ loop-again : tie.Need-loop-again Inv-loop μ-loop
 loop-again c =
     let x = c .before .before .before .before .before .before .args in
     let l = c .before .before .loop in
-    (search needs, search needs, filled-store (flatShown (x .rows) (x .width) (x .b) (buffers (x .a .now) (x .used .now))) (l .j) (x .x .now) (l .x) _ (l .inv .2) (c .shown .ensures))
+    (search needs, search needs, filled-store (flatShown (x .rows) (x .width) (x .b) (buffers (x .a .now) (x .used .now))) (l .place) (x .x .now) (l .x) _ (l .inv .2) (c .shown .ensures))
 
 same-length : tie.Need-same-length Inv-loop μ-loop
 same-length c = search needs
@@ -48,7 +48,7 @@ returns : tie.Need-returns Inv-loop μ-loop
 returns c =
     let x = c .before .before .before .before .before .args in
     let l = c .before .loop in
-    let e : l .j ≡ length (x .x .now) = omega arith in
+    let e : l .place ≡ length (x .x .now) = omega arith in
     l .inv .2 ∙ ap (λ n. filled (flatShown (x .rows) (x .width) (x .b) (buffers (x .a .now) (x .used .now))) n (x .x .now)) e ∙ filled-whole _ 0 (x .x .now)
 
 pub solution-spec : {M : Type 1} → statement M
@@ -61,7 +61,7 @@ solution-spec =
     shown-requires
     mul-x
     slice-write-x
-    add-j
+    add-place
     loop-less
     loop-again
     same-length

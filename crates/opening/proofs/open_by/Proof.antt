@@ -3,7 +3,7 @@ use native.Mathlib.Omega.{arith}
 use borrow.Author.Needs.{needs}
 use lib.ListN.{length}
 use Rattle.scheme.specs.Setup.{setupOf}
-use Rattle.opening.proofs.Answer.{opens-lacking, opens-fits, opens-unsolved, opens-solved}
+use Rattle.opening.proofs.Answer.{eliminated-le, opens-lacking, opens-fits, opens-unsolved, opens-solved}
 use Rattle.opening.proofs.open_by.Statement.{statement}
 use Rattle.opening.proofs.open_by.Tie as tie
 
@@ -16,7 +16,8 @@ cast-if1 c = search needs
 cast-position : tie.Need-cast-position
 cast-position c =
     let ok = c .before .before .before .before .before .before .before .before .before .before .before .before .before .before .pre .0 .set .setup .limits in
-    omega (arith, ok .secret)
+    let e = c .before .before .before .before .before .before .reduce-beside in
+    omega (arith, ok .secret, eliminated-le _ _ _ _ _ _ (e .ensures))
 
 same-length : tie.Need-same-length
 same-length c = search needs
