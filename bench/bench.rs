@@ -12,7 +12,7 @@ mod raw;
 mod records;
 
 use inputs::World;
-use measure::Table;
+use measure::{Table, ROUNDS};
 
 /// Different inputs that each measure goes through in rotation, so that no branch is learnt by heart.
 const TURN: usize = 16;
@@ -24,6 +24,10 @@ fn main() {
     let mut t = Table { slower: vec![], measures: 0, highest: (0.0, String::new()) };
     let mut targets = vec![];
     if wanted("calls") {
+        println!(
+            "each call against the reference: medians of {ROUNDS} turns; where the ratio is above 1.05, again with {}, which count",
+            4 * ROUNDS
+        );
         println!("{:40} {:>10} {:>10} {:>7}", "call", "ours ns", "ref. ns", "ratio");
         calls::field(&mut t);
         for (p, l, e, n) in [(2, 4, 3, 16), (7, 1, 1, 3), (251, 4, 3, 16), (257, 4, 3, 16), (65521, 8, 8, 32)] {
@@ -37,7 +41,7 @@ fn main() {
         peers::peers(&mut targets);
     }
     if wanted("collection") {
-        collection::collection(&mut targets);
+        collection::collection();
     }
     if wanted("growth") {
         collection::growth();

@@ -14,7 +14,7 @@ pub fn field(t: &mut Table) {
 }
 
 pub fn calls(t: &mut Table, w: &World) {
-    let (s, m) = (w.s, &w.m[..]);
+    let s = w.s;
     let (l, d, n) = (s.l as usize, s.d(), s.n as usize);
     let name = |call: &str| format!("{call} p {}", s.p);
     let holder = |k: usize| k * 7 % n;
@@ -38,12 +38,12 @@ pub fn calls(t: &mut Table, w: &World) {
         &name("deal"),
         |k, look| {
             let x = &w.deals[k];
-            let r = ours::deal(s, m, &x.secrets, &x.random, holder(k) as u16, &mut a[..d], &mut c[..d]);
+            let r = ours::deal(s, w.m(k), &x.secrets, &x.random, holder(k) as u16, &mut a[..d], &mut c[..d]);
             give(look, || digest(r, &[&a[..d], &c[..d]].concat()), r)
         },
         |k, look| {
             let x = &w.deals[k];
-            let r = reference::deal(s, m, &x.secrets, &x.random, holder(k) as u16, &mut b[..d], &mut e[..d]);
+            let r = reference::deal(s, w.m(k), &x.secrets, &x.random, holder(k) as u16, &mut b[..d], &mut e[..d]);
             give(look, || of(&r, &[&b[..d], &e[..d]].concat()), r.number)
         },
     );
@@ -51,31 +51,31 @@ pub fn calls(t: &mut Table, w: &World) {
         &name("deal_all"),
         |k, look| {
             let x = &w.deals[k];
-            let r = ours::deal_all(s, m, &x.secrets, &x.random, &mut a, &mut c);
+            let r = ours::deal_all(s, w.m(k), &x.secrets, &x.random, &mut a, &mut c);
             give(look, || digest(r, &[&a[..], &c[..]].concat()), r)
         },
         |k, look| {
             let x = &w.deals[k];
-            let r = reference::deal_all(s, m, &x.secrets, &x.random, &mut b, &mut e);
+            let r = reference::deal_all(s, w.m(k), &x.secrets, &x.random, &mut b, &mut e);
             give(look, || of(&r, &[&b[..], &e[..]].concat()), r.number)
         },
     );
     let too_high: Vec<Vec<u16>> = w.deals.iter().map(|x| [&x.random[..x.random.len() - 1], &[s.p]].concat()).collect();
     t.line(
         &name("deal_all, refused 4"),
-        |k, _| ours::deal_all(s, m, &w.deals[k].secrets, &too_high[k], &mut a, &mut c) as u64,
-        |k, _| reference::deal_all(s, m, &w.deals[k].secrets, &too_high[k], &mut b, &mut e).number as u64,
+        |k, _| ours::deal_all(s, w.m(k), &w.deals[k].secrets, &too_high[k], &mut a, &mut c) as u64,
+        |k, _| reference::deal_all(s, w.m(k), &w.deals[k].secrets, &too_high[k], &mut b, &mut e).number as u64,
     );
 
     let mut value = 0;
     t.line(
         &name("pair_value"),
         |k, look| {
-            let r = ours::pair_value(s, m, w.g(k, holder(k)), (k % n) as u16, &mut value);
+            let r = ours::pair_value(s, w.m(k), w.g(k, holder(k)), (k % n) as u16, &mut value);
             give(look, || digest(r, &[value]), r | value)
         },
         |k, look| {
-            let r = reference::pair_value(s, m, w.g(k, holder(k)), (k % n) as u16);
+            let r = reference::pair_value(s, w.m(k), w.g(k, holder(k)), (k % n) as u16);
             give(look, || of(&r, &[]), r.values[0])
         },
     );
@@ -92,12 +92,12 @@ pub fn calls(t: &mut Table, w: &World) {
         t.line(
             &name(call),
             |k, look| {
-                let r = ours::judge(s, m, w.h(k, holder(k)), received(k), &mut verdict, &mut named);
+                let r = ours::judge(s, w.m(k), w.h(k, holder(k)), received(k), &mut verdict, &mut named);
                 let said = if verdict == 1 { &[1][..] } else { &[0, named][..] };
                 give(look, || digest(r, said), r | verdict)
             },
             |k, look| {
-                let r = reference::judge(s, m, w.h(k, holder(k)), received(k));
+                let r = reference::judge(s, w.m(k), w.h(k, holder(k)), received(k));
                 give(look, || of(&r, &[]), r.values[0])
             },
         );
@@ -134,11 +134,11 @@ pub fn calls(t: &mut Table, w: &World) {
         t.line(
             &name(call),
             |k, look| {
-                let r = ours::rehearse(s, m, &w.deals[k].gs, hs(k), &mut found);
+                let r = ours::rehearse(s, w.m(k), &w.deals[k].gs, hs(k), &mut found);
                 give(look, || digest(r, if found[0] == 1 { &found[..1] } else { &found }), r | found[0])
             },
             |k, look| {
-                let r = reference::rehearse(s, m, &w.deals[k].gs, hs(k));
+                let r = reference::rehearse(s, w.m(k), &w.deals[k].gs, hs(k));
                 give(look, || of(&r, &[]), r.values[0])
             },
         );
@@ -165,22 +165,22 @@ pub fn calls(t: &mut Table, w: &World) {
         t.line(
             &name(&format!("determines, {who}")),
             |k, look| {
-                let r = ours::determines(s, m, sets[k], &mut yes);
+                let r = ours::determines(s, w.m(k), sets[k], &mut yes);
                 give(look, || digest(r, &[yes]), r | yes)
             },
             |k, look| {
-                let r = reference::determines(s, m, sets[k]);
+                let r = reference::determines(s, w.m(k), sets[k]);
                 give(look, || of(&r, &[]), r.values[0])
             },
         );
         t.line(
             &name(&format!("private, {who}")),
             |k, look| {
-                let r = ours::private(s, m, sets[k], &mut yes);
+                let r = ours::private(s, w.m(k), sets[k], &mut yes);
                 give(look, || digest(r, &[yes]), r | yes)
             },
             |k, look| {
-                let r = reference::private(s, m, sets[k]);
+                let r = reference::private(s, w.m(k), sets[k]);
                 give(look, || of(&r, &[]), r.values[0])
             },
         );
@@ -191,12 +191,12 @@ pub fn calls(t: &mut Table, w: &World) {
             &name(&format!("judge_set, {who}")),
             |k, look| {
                 let q = (k % l) as u16;
-                let r = ours::judge_set(s, m, sets[k], q, &mut row, &mut kind);
-                assert!(!look || reference::is_of_kind(s, m, sets[k], q, kind, &row));
+                let r = ours::judge_set(s, w.m(k), sets[k], q, &mut row, &mut kind);
+                assert!(!look || reference::is_of_kind(s, w.m(k), sets[k], q, kind, &row));
                 give(look, || digest(r, &[kind]), r | kind)
             },
             |k, look| {
-                let r = reference::judge_set(s, m, sets[k], (k % l) as u16, &mut other);
+                let r = reference::judge_set(s, w.m(k), sets[k], (k % l) as u16, &mut other);
                 give(look, || of(&r, &[]), r.values[0])
             },
         );
@@ -211,11 +211,11 @@ pub fn calls(t: &mut Table, w: &World) {
             t.line(
                 &name(&format!("open, {who}{case}")),
                 |k, look| {
-                    let r = ours::open(s, m, sets[k], &handed[k], &mut a[..l], &mut position);
+                    let r = ours::open(s, w.m(k), sets[k], &handed[k], &mut a[..l], &mut position);
                     give(look, || digest(r, if r == 0 { &a[..l] } else { &[] }), r)
                 },
                 |k, look| {
-                    let r = reference::open(s, m, sets[k], &handed[k], &mut b[..l]);
+                    let r = reference::open(s, w.m(k), sets[k], &handed[k], &mut b[..l]);
                     give(look, || digest(r.number, if r.number == 0 { &b[..l] } else { &[] }), r.number)
                 },
             );

@@ -5,11 +5,11 @@ use crate::measure::*;
 use crate::{ours, TURN};
 use std::time::Instant;
 
-pub fn collection(targets: &mut Vec<Target>) {
+pub fn collection() {
     const KEYS: usize = 9400;
     const CHUNK: usize = 470;
     let w = &board();
-    let (s, m) = (w.s, &w.m[..]);
+    let (s, m) = (w.s, w.m(0));
     let mut r = Random(257);
     let keys: Vec<(Vec<u16>, Vec<u16>)> = (0..KEYS).map(|_| (r.elements(256, 16), r.elements(257, 33))).collect();
     let set = 0b1000_0100_1011_0101;
@@ -85,7 +85,6 @@ pub fn collection(targets: &mut Vec<Target>) {
     println!();
     println!("the collection: {KEYS} keys dealt, values exchanged and judged by all 16, kept, four columns opened by 7");
     println!("{:40} {a:8.3} s {b:8.3} s {:7.3}", "collection", a / b);
-    targets.push(target("the whole collection: no slower than the reference", Some(a / b), 1.05));
 }
 
 pub fn growth() {
@@ -103,18 +102,18 @@ pub fn growth() {
         let sets = w.sets(k, true);
         let shares: Vec<Vec<u16>> = (0..TURN).map(|x| w.shares(x, sets[x], 0)).collect();
         let mut out = vec![0; w.s.l as usize];
-        one(runner(|x, _| ours::open(w.s, &w.m, sets[x], &shares[x], &mut out, &mut 0) as u64))
+        one(runner(|x, _| ours::open(w.s, w.m(x), sets[x], &shares[x], &mut out, &mut 0) as u64))
     };
     let judge_set = |w: &World, k: usize| {
         let sets = w.sets(k, true);
         let mut out = [0; 32];
-        one(runner(|x, _| ours::judge_set(w.s, &w.m, sets[x], 0, &mut out, &mut 0) as u64))
+        one(runner(|x, _| ours::judge_set(w.s, w.m(x), sets[x], 0, &mut out, &mut 0) as u64))
     };
     let deal_all = |w: &World| {
         let (mut gs, mut hs) = (vec![0; w.s.entries()], vec![0; w.s.entries()]);
-        one(runner(|x, _| ours::deal_all(w.s, &w.m, &w.deals[x].secrets, &w.deals[x].random, &mut gs, &mut hs) as u64))
+        one(runner(|x, _| ours::deal_all(w.s, w.m(x), &w.deals[x].secrets, &w.deals[x].random, &mut gs, &mut hs) as u64))
     };
-    let judge = |w: &World| one(runner(|x, _| ours::judge(w.s, &w.m, w.h(x, 0), w.values(x, 0), &mut 0, &mut 0) as u64));
+    let judge = |w: &World| one(runner(|x, _| ours::judge(w.s, w.m(x), w.h(x, 0), w.values(x, 0), &mut 0, &mut 0) as u64));
     let wide = World::new(257, 4, 3, 32);
     series("open, p 257, l 4, e 3, n 32, by k", &[7, 8, 12, 16, 24, 32], &|k| open(&wide, k as usize));
     series("judge_set, p 257, l 4, e 3, n 32, k", &[7, 8, 12, 16, 24, 32], &|k| judge_set(&wide, k as usize));

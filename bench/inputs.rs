@@ -20,6 +20,11 @@ impl Random {
     pub fn elements(&mut self, p: u16, n: usize) -> Vec<u16> {
         (0..n).map(|_| self.below(p as usize) as u16).collect()
     }
+    pub fn shuffle<T>(&mut self, xs: &mut [T]) {
+        for i in (1..xs.len()).rev() {
+            xs.swap(i, self.below(i + 1));
+        }
+    }
     /// So many holders out of n.
     pub fn set(&mut self, n: u16, members: usize) -> u32 {
         let mut set = 0u32;
@@ -31,6 +36,7 @@ impl Random {
 }
 
 pub struct Deal {
+    pub m: Vec<u16>,
     pub secrets: Vec<u16>,
     pub random: Vec<u16>,
     pub gs: Vec<u16>,
@@ -39,18 +45,29 @@ pub struct Deal {
     pub values: Vec<u16>,
 }
 
+impl Deal {
+    fn new(s: Params, m: Vec<u16>, r: &mut Random) -> Deal {
+        let (l, d, n) = (s.l as usize, s.d(), s.n as usize);
+        let (secrets, random) = (r.elements(s.p, l * l), r.elements(s.p, d * d - l * l));
+        let (mut gs, mut hs) = (vec![0; n * d], vec![0; n * d]);
+        reference::deal_all(s, &m, &secrets, &random, &mut gs, &mut hs);
+        let values = (0..n * n).map(|k| reference::pair_value(s, &m, &gs[k % n * d..][..d], (k / n) as u16).values[0]).collect();
+        Deal { m, secrets, random, gs, hs, values }
+    }
+}
+
 pub struct World {
     pub s: Params,
-    pub m: Vec<u16>,
     pub deals: Vec<Deal>,
 }
 
 impl World {
+    /// A dealing for each input. Its holders stand in another order each time, so that the matrix changes too.
     pub fn new(p: u16, l: u16, e: u16, n: u16) -> World {
-        World::with(p, l, e, n, TURN)
+        World::with(p, l, e, n, true)
     }
 
-    pub fn with(p: u16, l: u16, e: u16, n: u16, deals: usize) -> World {
+    pub fn with(p: u16, l: u16, e: u16, n: u16, turned: bool) -> World {
         let s = Params { p, l, e, n };
         let mut r = Random(p as u64);
         let mut m = vec![0; s.entries()];
@@ -60,19 +77,21 @@ impl World {
                 m = r.elements(p, s.entries());
             }
         }
-        let deals = (0..deals).map(|_| World::deal(s, &m, &mut r)).collect();
-        World { s, m, deals }
+        let mut rows: Vec<Vec<u16>> = m.chunks(s.d()).map(|row| row.to_vec()).collect();
+        let deals = (0..TURN)
+            .map(|_| {
+                if turned {
+                    r.shuffle(&mut rows);
+                }
+                Deal::new(s, rows.concat(), &mut r)
+            })
+            .collect();
+        World { s, deals }
     }
 
-    pub fn deal(s: Params, m: &[u16], r: &mut Random) -> Deal {
-        let (l, d, n) = (s.l as usize, s.d(), s.n as usize);
-        let (secrets, random) = (r.elements(s.p, l * l), r.elements(s.p, d * d - l * l));
-        let (mut gs, mut hs) = (vec![0; n * d], vec![0; n * d]);
-        reference::deal_all(s, m, &secrets, &random, &mut gs, &mut hs);
-        let values = (0..n * n).map(|k| reference::pair_value(s, m, &gs[k % n * d..][..d], (k / n) as u16).values[0]).collect();
-        Deal { secrets, random, gs, hs, values }
+    pub fn m(&self, k: usize) -> &[u16] {
+        &self.deals[k].m
     }
-
     pub fn g(&self, k: usize, i: usize) -> &[u16] {
         &self.deals[k].gs[i * self.s.d()..][..self.s.d()]
     }
@@ -90,9 +109,9 @@ impl World {
     pub fn sets(&self, members: usize, determining: bool) -> Vec<u32> {
         let mut r = Random(members as u64);
         (0..TURN)
-            .map(|_| loop {
+            .map(|k| loop {
                 let set = r.set(self.s.n, members);
-                if !determining || reference::determines(self.s, &self.m, set).values[0] == 1 {
+                if !determining || reference::determines(self.s, self.m(k), set).values[0] == 1 {
                     return set;
                 }
             })
@@ -112,13 +131,13 @@ pub fn members(set: u32) -> impl Iterator<Item = usize> {
     (0..32).filter(move |i| set >> i & 1 == 1)
 }
 
-/// Bytes as the board's keys are.
+/// The board's setup, one matrix for all keys, and keys of bytes.
 pub fn board() -> World {
-    let mut w = World::new(257, 4, 3, 16);
+    let mut w = World::with(257, 4, 3, 16, false);
     let mut r = Random(9400);
     for deal in &mut w.deals {
         deal.secrets = r.elements(256, 16);
-        reference::deal_all(w.s, &w.m, &deal.secrets, &deal.random, &mut deal.gs, &mut deal.hs);
+        reference::deal_all(w.s, &deal.m, &deal.secrets, &deal.random, &mut deal.gs, &mut deal.hs);
     }
     w
 }
@@ -127,7 +146,7 @@ pub fn file(w: &World, k: usize, holder: u16) -> Vec<u8> {
     let s = w.s;
     let mut bytes = vec![0; 10 + 2 * s.entries() + 6 + 4 * s.d()];
     let (first, second) = bytes.split_at_mut(10 + 2 * s.entries());
-    reference::write_setup(s, &w.m, first);
+    reference::write_setup(s, w.m(k), first);
     reference::write_dealing(s, 7, holder, w.g(k, holder as usize), w.h(k, holder as usize), second);
     let mut records = vec![];
     for j in 0..s.n {
@@ -138,10 +157,7 @@ pub fn file(w: &World, k: usize, holder: u16) -> Vec<u8> {
         reference::write_verdict(s, 7, j, 1, &mut verdict);
         records.push(verdict);
     }
-    let mut r = Random(k as u64);
-    for i in (1..records.len()).rev() {
-        records.swap(i, r.below(i + 1));
-    }
+    Random(k as u64).shuffle(&mut records);
     bytes.extend(records.concat());
     bytes
 }

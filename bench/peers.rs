@@ -19,7 +19,7 @@ unsafe extern "C" {
 
 pub fn peers(targets: &mut Vec<Target>) {
     let w = &board();
-    let (s, m) = (w.s, &w.m[..]);
+    let (s, m) = (w.s, w.m(0));
     let bytes: Vec<Vec<u8>> = w.deals.iter().map(|x| x.secrets.iter().map(|&v| v as u8).collect()).collect();
     let (gfshare, flint) = unsafe { (gfshare_here() == 1, flint_here() == 1) };
 

@@ -6,7 +6,7 @@ use crate::{ours, TURN};
 use reference::Answer;
 
 pub fn records(t: &mut Table, w: &World) {
-    let (s, m) = (w.s, &w.m[..]);
+    let s = w.s;
     let (l, d, n) = (s.l as usize, s.d(), s.n as usize);
     let name = |call: &str| format!("{call} p {}", s.p);
     let holder = |k: usize| (k * 7 % n) as u16;
@@ -26,16 +26,16 @@ pub fn records(t: &mut Table, w: &World) {
 
     t.line(
         &name("write_setup"),
-        |_, look| {
-            let r = ours::write_setup(s, m, &mut x);
+        |k, look| {
+            let r = ours::write_setup(s, w.m(k), &mut x);
             give(look, || digest(r, &wide(&x)), r)
         },
-        |_, look| {
-            let r = reference::write_setup(s, m, &mut y);
+        |k, look| {
+            let r = reference::write_setup(s, w.m(k), &mut y);
             give(look, || of(&r, &wide(&y)), r.number)
         },
     );
-    let written = made(10 + 2 * n * d, &|_, out| reference::write_setup(s, m, out));
+    let written = made(10 + 2 * n * d, &|k, out| reference::write_setup(s, w.m(k), out));
     let mut four = [0; 4];
     t.line(
         &name("read_setup_head"),
