@@ -36,13 +36,13 @@ pub fn dot_product(
     field::residue(p, sum)
 }
 
-// y - f x modulo p.
+// y - f x modulo p. The sum fits 32 bits, of which a vector has more lanes.
 fn sub_entry(y: u64, x: u64, f: u16, p: u16) -> u16
     requires { ⌜ (y ≤ 65535) × (x ≤ 65535) × (f ≤ p) × (0 < p) ⌝ }
     ensures { λ r. ⌜ r ≡ subEntry p f y x ⌝ }
 {
-    let g = (p - f) as u64;
-    ((y + g * x) % (p as u64)) as u16
+    let g = (p - f) as u32;
+    (((y as u32) + g * (x as u32)) % (p as u32)) as u16
 }
 
 // The row that starts at t becomes that row less f times the row that starts at q: the loop.
