@@ -1,35 +1,32 @@
 //! The stored files of the program `files`, each behind its length, and what the reference prints for them.
 
-use crate::cases::*;
+use crate::cases::FILE;
+use crate::draw::*;
 use reference::*;
 
-fn bytes(words: &[u16]) -> Vec<u8> {
-    words.iter().flat_map(|w| w.to_le_bytes()).collect()
-}
-
 /// The words of document 01's example.
-fn example() -> Vec<u16> {
-    let mut words = vec![0x5553, 7, 1, 1, 3, 6, 2, 5, 3, 4, 4];
-    words.extend([0x4C44, 1, 1, 2, 4, 4, 3]);
+pub fn example() -> Vec<u16> {
+    let mut words = vec![SU, 7, 1, 1, 3, 6, 2, 5, 3, 4, 4];
+    words.extend([DL, 1, 1, 2, 4, 4, 3]);
     for (from, value) in [(0, 2), (1, 1), (2, 0)] {
-        words.extend([0x5650, 1, from, 1, value]);
+        words.extend([PV, 1, from, 1, value]);
     }
     for holder in 0..3 {
-        words.extend([0x4456, 1, holder, 1]);
+        words.extend([VD, 1, holder, 1]);
     }
     words
 }
 
 /// A file of zeros in which everyone accepts.
-fn zeros(p: u16, l: u16, e: u16, n: u16) -> Vec<u16> {
+pub fn zeros(p: u16, l: u16, e: u16, n: u16) -> Vec<u16> {
     let d = l as usize + e as usize;
-    let mut words = vec![0x5553, p, l, e, n];
+    let mut words = vec![SU, p, l, e, n];
     words.extend(vec![0; n as usize * d]);
-    words.extend([0x4C44, 65535, n - 1]);
+    words.extend([DL, 65535, n - 1]);
     words.extend(vec![0; 2 * d]);
     for from in 0..n {
-        words.extend([0x5650, 65535, from, n - 1, 0]);
-        words.extend([0x4456, 65535, from, 1]);
+        words.extend([PV, 65535, from, n - 1, 0]);
+        words.extend([VD, 65535, from, 1]);
     }
     words
 }
@@ -58,7 +55,7 @@ pub fn stored() -> (Vec<u8>, String) {
 
     // every word in turn at the limits and one past them, and every mark in every place
     for k in 0..whole.len() {
-        for w in [0, 1, 2, 3, 6, 7, 8, 9, 33, 65535, 0x5553, 0x4C44, 0x5650, 0x4456, 0x4853] {
+        for w in [0, 1, 2, 3, 6, 7, 8, 9, 33, 65535, SU, DL, PV, VD, SH] {
             let mut changed = whole.clone();
             changed[k] = w;
             if changed != whole {
@@ -79,9 +76,10 @@ pub fn stored() -> (Vec<u8>, String) {
     // drawn files of every field, in order or damaged
     let mut r = Random(20140902);
     while files.len() < 1000 {
-        let c = draw(&mut r, 12);
-        if c.slices[0].len() < 600 {
-            files.push(c.slices[0].iter().map(|&b| b as u8).collect());
+        let sound = Draw::new(&mut r).case(FILE);
+        let c = damaged(&mut r, sound);
+        if c.bytes.len() < 600 {
+            files.push(c.bytes);
         }
     }
 

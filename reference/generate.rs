@@ -1,26 +1,51 @@
-//! Writes stored inputs and what the reference answers: `generate files INPUT OUTPUT` for the program `files`, `generate cases INPUT OUTPUT` for every call.
+//! Writes stored inputs and what the reference answers: `generate files INPUT OUTPUT` for the program `files`, `generate cases INPUT OUTPUT` for the
+//! program `cases`.
 
 mod cases;
+mod draw;
+mod edges;
 mod files;
 use cases::*;
+use draw::*;
+use std::collections::BTreeMap;
 
-/// Drawn cases of every call, the answers a line each.
-fn drawn() -> (Vec<u8>, String) {
+/// The number returned, from a case's line; a file's from what it prints.
+fn number(line: &str) -> u16 {
+    line.trim_start_matches("refused ").split(' ').next().and_then(|x| x.parse().ok()).unwrap_or(0)
+}
+
+/// The cases at the limits and drawn cases of every call, and the answers.
+fn stored() -> (Vec<u8>, String) {
     let mut r = Random(20140901);
-    let (mut input, mut output) = (vec![], String::new());
-    for round in 0..300 {
+    let mut all = edges::edges(&mut r);
+    for round in 0..40 {
         for call in 0..CALLS.len() as u16 {
-            // the largest files and matrices now and then only, so that the stored file stays small
+            // the largest files and matrices now and then only, so that what is stored stays small
             let c = loop {
                 let c = draw(&mut r, call);
-                if c.bytes().len() < 1200 || round % 20 == 0 {
+                if c.stored().len() < 400 || round % 20 == 0 {
                     break c;
                 }
             };
-            input.extend(c.bytes());
-            output += &c.line();
+            all.push(c);
         }
     }
+    let (mut input, mut output) = (vec![], String::new());
+    let mut counts = vec![BTreeMap::new(); CALLS.len()];
+    for c in &all {
+        assert!(c.words.iter().all(|x| x.len() <= 528) && c.bytes.len() <= 4096, "too long: {c:?}");
+        let line = c.line();
+        *counts[c.call as usize].entry(number(&line)).or_insert(0) += 1;
+        input.extend(c.stored());
+        output += &line;
+    }
+    for (call, counts) in CALLS.iter().zip(&counts) {
+        let each: Vec<String> = counts.iter().map(|(number, k)| format!("{number}: {k}")).collect();
+        eprintln!("{}, {} cases ({})", call.name, counts.values().sum::<usize>(), each.join(", "));
+        let found: Vec<u16> = counts.keys().copied().collect();
+        assert_eq!(found, [&[0], call.refusals].concat(), "{}: every refusal and no other", call.name);
+    }
+    eprintln!("{} cases, {} bytes in, {} bytes out", all.len(), input.len(), output.len());
     (input, output)
 }
 
@@ -28,7 +53,7 @@ fn main() {
     let args: Vec<String> = std::env::args().collect();
     let (input, output) = match args[1].as_str() {
         "files" => files::stored(),
-        "cases" => drawn(),
+        "cases" => stored(),
         other => panic!("neither files nor cases: {other}"),
     };
     std::fs::write(&args[2], input).unwrap();

@@ -58,7 +58,7 @@ impl Faults {
             self.0.push(number);
         }
     }
-    fn length(&mut self, xs: &[u16], needed: usize) {
+    fn length<T>(&mut self, xs: &[T], needed: usize) {
         self.when(3, xs.len() != needed);
     }
     fn elements(&mut self, p: u16, xs: &[u16]) {
@@ -66,6 +66,9 @@ impl Faults {
     }
     fn lowest(&self) -> Option<u16> {
         self.0.iter().copied().min()
+    }
+    fn check(&self) -> Result<(), u16> {
+        self.lowest().map_or(Ok(()), Err)
     }
 }
 
@@ -104,7 +107,12 @@ fn row<'a>(s: &Params, m: &'a [u16], i: usize) -> &'a [u16] {
     &m[i * s.d()..(i + 1) * s.d()]
 }
 
-// ---- the calls
+// ---- dealing and judging
+
+/// Whether there is a field of p elements.
+pub fn field(p: u16) -> Answer {
+    if PRIMES.contains(&p) { given(&[]) } else { refused(1) }
+}
 
 /// The points matrix: row i gives, from the values at 0 .. d − 1, the value at d + i.
 pub fn points(s: Params, matrix: &mut [u16]) -> Answer {
@@ -432,16 +440,207 @@ pub fn open(s: Params, m: &[u16], set: u32, shares: &[u16], secrets: &mut [u16])
     }
 }
 
-// ---- the holder's file
+// ---- records
 
-const SU: u16 = 0x5553;
-const DL: u16 = 0x4C44;
-const PV: u16 = 0x5650;
-const VD: u16 = 0x4456;
+pub const SU: u16 = 0x5553;
+pub const DL: u16 = 0x4C44;
+pub const PV: u16 = 0x5650;
+pub const VD: u16 = 0x4456;
+pub const SH: u16 = 0x4853;
+
+/// Words as bytes, low byte first.
+pub fn bytes(words: &[u16]) -> Vec<u8> {
+    words.iter().flat_map(|w| [(w % 256) as u8, (w / 256) as u8]).collect()
+}
 
 fn word(bytes: &[u8], k: usize) -> u16 {
     bytes[2 * k] as u16 + 256 * bytes[2 * k + 1] as u16
 }
+
+fn dealing_faults(s: &Params, dealing: u16, holder: u16, g: &[u16], h: &[u16]) -> Faults {
+    let mut f = Faults(vec![]);
+    f.elements(s.p, g);
+    f.elements(s.p, h);
+    f.when(5, holder >= s.n);
+    f.when(9, dealing == 0);
+    f
+}
+
+fn pair_faults(s: &Params, [dealing, from, to, value]: [u16; 4]) -> Faults {
+    let mut f = Faults(vec![]);
+    f.elements(s.p, &[value]);
+    f.when(5, from >= s.n || to >= s.n);
+    f.when(9, dealing == 0);
+    f
+}
+
+fn verdict_faults(s: &Params, [dealing, holder, verdict]: [u16; 3]) -> Faults {
+    let mut f = Faults(vec![]);
+    f.when(5, holder >= s.n);
+    f.when(9, dealing == 0);
+    f.when(12, verdict > 1);
+    f
+}
+
+fn share_faults(s: &Params, [dealing, holder, column, value]: [u16; 4]) -> Faults {
+    let mut f = Faults(vec![]);
+    f.elements(s.p, &[value]);
+    f.when(5, holder >= s.n || column >= s.l || dealing == 0 && column != 0);
+    f
+}
+
+/// Writes a record of these words into a buffer of just its length, or gives the lowest refusal: of the setup, of that length or in `f`.
+fn write(s: Params, words: &[u16], mut f: Faults, out: &mut [u8]) -> Answer {
+    f.0.extend(s.limits());
+    f.length(out, 2 * words.len());
+    if let Some(k) = f.lowest() {
+        return refused(k);
+    }
+    out.copy_from_slice(&bytes(words));
+    given(&[])
+}
+
+/// SU: the setup's numbers and its matrix.
+pub fn write_setup(s: Params, m: &[u16], out: &mut [u8]) -> Answer {
+    let mut f = Faults(vec![]);
+    f.length(m, s.entries());
+    f.elements(s.p, m);
+    write(s, &[&[SU, s.p, s.l, s.e, s.n], m].concat(), f, out)
+}
+
+/// DL: a holder's part of a dealing.
+pub fn write_dealing(s: Params, dealing: u16, holder: u16, g: &[u16], h: &[u16], out: &mut [u8]) -> Answer {
+    let mut f = dealing_faults(&s, dealing, holder, g, h);
+    f.length(g, s.d());
+    f.length(h, s.d());
+    write(s, &[&[DL, dealing, holder], g, h].concat(), f, out)
+}
+
+/// PV: the value that one holder sends another.
+pub fn write_pair_value(s: Params, dealing: u16, from: u16, to: u16, value: u16, out: &mut [u8]) -> Answer {
+    write(s, &[PV, dealing, from, to, value], pair_faults(&s, [dealing, from, to, value]), out)
+}
+
+/// VD: a holder's verdict, 1 accept or 0 reject.
+pub fn write_verdict(s: Params, dealing: u16, holder: u16, verdict: u16, out: &mut [u8]) -> Answer {
+    write(s, &[VD, dealing, holder, verdict], verdict_faults(&s, [dealing, holder, verdict]), out)
+}
+
+/// SH: a holder's share of a column, or of a combination under the dealing number 0.
+pub fn write_share(s: Params, dealing: u16, holder: u16, column: u16, value: u16, out: &mut [u8]) -> Answer {
+    write(s, &[SH, dealing, holder, column, value], share_faults(&s, [dealing, holder, column, value]), out)
+}
+
+/// The mark that a part starts with.
+fn mark(part: &[u8]) -> Result<u16, u16> {
+    if part.len() < 2 { Err(3) } else { Ok(word(part, 0)) }
+}
+
+/// The mark must be this one.
+fn expect(part: &[u8], wanted: u16) -> Result<(), u16> {
+    if mark(part)? == wanted { Ok(()) } else { Err(8) }
+}
+
+/// The first words of a part, unless it is cut short.
+fn words(part: &[u8], count: usize) -> Result<Vec<u16>, u16> {
+    if part.len() < 2 * count {
+        return Err(3);
+    }
+    Ok((0..count).map(|k| word(part, k)).collect())
+}
+
+/// The fields behind the mark of a record of N of them.
+fn fields<const N: usize>(part: &[u8]) -> Result<[u16; N], u16> {
+    let all = words(part, 1 + N)?;
+    Ok(std::array::from_fn(|k| all[1 + k]))
+}
+
+/// The numbers and the matrix of an SU, whose mark was seen: the numbers after ten bytes, then the length. The entries are not looked at.
+fn setup_fields(part: &[u8]) -> Result<(Params, Vec<u16>), u16> {
+    let [p, l, e, n] = fields(part)?;
+    let s = Params { p, l, e, n };
+    Faults::of(&s).check()?;
+    Ok((s, words(part, 5 + s.entries())?.split_off(5)))
+}
+
+/// Dealing number, holder, g and h of a DL whose mark was seen.
+fn dealing_fields(s: &Params, part: &[u8]) -> Result<(u16, u16, Vec<u16>, Vec<u16>), u16> {
+    let mut g = words(part, 3 + 2 * s.d())?;
+    let h = g.split_off(3 + s.d());
+    let (dealing, holder) = (g[1], g[2]);
+    g.drain(..3);
+    dealing_faults(s, dealing, holder, &g, &h).check()?;
+    Ok((dealing, holder, g, h))
+}
+
+fn answer(found: Result<Vec<u16>, u16>) -> Answer {
+    found.map_or_else(refused, |values| given(&values))
+}
+
+/// The four numbers of the SU that a part starts with.
+pub fn read_setup_head(part: &[u8]) -> Answer {
+    answer(expect(part, SU).and_then(|()| setup_fields(part)).map(|(s, _)| vec![s.p, s.l, s.e, s.n]))
+}
+
+/// The matrix of the SU that a part starts with; the lent length is tested after the numbers and before the entries.
+pub fn read_setup_matrix(part: &[u8], matrix: &mut [u16]) -> Answer {
+    let found = expect(part, SU).and_then(|()| setup_fields(part)).and_then(|(s, m)| {
+        let mut f = Faults(vec![]);
+        f.length(matrix, s.entries());
+        f.elements(s.p, &m);
+        f.check()?;
+        matrix.copy_from_slice(&m);
+        Ok(vec![])
+    });
+    answer(found)
+}
+
+/// Reads a DL, PV, VD or SH at the start of a part: what is lent first, then the mark, then the rest.
+fn read(lent: Faults, part: &[u8], wanted: u16, rest: impl FnOnce() -> Result<Vec<u16>, u16>) -> Answer {
+    answer(lent.check().and_then(|()| expect(part, wanted)).and_then(|()| rest()))
+}
+
+/// The dealing number and holder of a DL, with its g and h.
+pub fn read_dealing(s: Params, part: &[u8], g: &mut [u16], h: &mut [u16]) -> Answer {
+    let mut lent = Faults::of(&s);
+    lent.length(g, s.d());
+    lent.length(h, s.d());
+    read(lent, part, DL, || {
+        let (dealing, holder, row, column) = dealing_fields(&s, part)?;
+        g.copy_from_slice(&row);
+        h.copy_from_slice(&column);
+        Ok(vec![dealing, holder])
+    })
+}
+
+/// The four fields of a PV.
+pub fn read_pair_value(s: Params, part: &[u8]) -> Answer {
+    read(Faults::of(&s), part, PV, || {
+        let x = fields(part)?;
+        pair_faults(&s, x).check()?;
+        Ok(x.to_vec())
+    })
+}
+
+/// The three fields of a VD.
+pub fn read_verdict(s: Params, part: &[u8]) -> Answer {
+    read(Faults::of(&s), part, VD, || {
+        let x = fields(part)?;
+        verdict_faults(&s, x).check()?;
+        Ok(x.to_vec())
+    })
+}
+
+/// The four fields of an SH.
+pub fn read_share(s: Params, part: &[u8]) -> Answer {
+    read(Faults::of(&s), part, SH, || {
+        let x = fields(part)?;
+        share_faults(&s, x).check()?;
+        Ok(x.to_vec())
+    })
+}
+
+// ---- the holder's file
 
 struct Holder {
     s: Params,
@@ -457,114 +656,73 @@ struct Holder {
 /// The refusal and the byte where the faulty record starts.
 type Fault = (u16, usize);
 
-fn read_setup(part: &[u8]) -> Result<(Params, Vec<u16>, usize), u16> {
-    if part.len() < 10 {
-        return Err(3);
+/// The mark that a part of a file starts with: one with a place there, or 10 for a second SU or DL, or 8.
+fn mark_in_place(part: &[u8], place: &[u16], seen: &[u16]) -> Result<u16, u16> {
+    match mark(part)? {
+        x if seen.contains(&x) => Err(10),
+        x if place.contains(&x) => Ok(x),
+        _ => Err(8),
     }
-    let s = Params { p: word(part, 1), l: word(part, 2), e: word(part, 3), n: word(part, 4) };
-    if let Some(k) = Faults::of(&s).lowest() {
-        return Err(k);
+}
+
+/// The SU of a file, entries and all.
+fn first_record(part: &[u8]) -> Result<(Params, Vec<u16>), u16> {
+    mark_in_place(part, &[SU], &[])?;
+    let (s, m) = setup_fields(part)?;
+    if m.iter().any(|&x| x >= s.p) { Err(4) } else { Ok((s, m)) }
+}
+
+/// The DL of a file: a holder that has received nothing yet.
+fn second_record(s: Params, m: Vec<u16>, part: &[u8]) -> Result<Holder, u16> {
+    mark_in_place(part, &[DL], &[SU])?;
+    let (dealing, holder, g, h) = dealing_fields(&s, part)?;
+    let none = vec![None; s.n as usize];
+    Ok(Holder { s, m, dealing, holder, g, h, values: none.clone(), verdicts: none })
+}
+
+/// Notes what a holder sent, once only.
+fn receive(received: &mut [Option<u16>], from: u16, value: u16, mut f: Faults) -> Result<(), u16> {
+    let from = from as usize;
+    f.when(10, from < received.len() && received[from].is_some());
+    f.check()?;
+    received[from] = Some(value);
+    Ok(())
+}
+
+/// Takes in a PV or VD and gives its size.
+fn later_record(x: &mut Holder, part: &[u8]) -> Result<usize, u16> {
+    if mark_in_place(part, &[PV, VD], &[SU, DL])? == PV {
+        let all @ [dealing, from, to, value] = fields(part)?;
+        let mut f = pair_faults(&x.s, all);
+        f.when(5, to != x.holder);
+        f.when(9, dealing != x.dealing);
+        receive(&mut x.values, from, value, f)?;
+        Ok(10)
+    } else {
+        let all @ [dealing, from, verdict] = fields(part)?;
+        let mut f = verdict_faults(&x.s, all);
+        f.when(9, dealing != x.dealing);
+        receive(&mut x.verdicts, from, verdict, f)?;
+        Ok(8)
     }
-    let size = 10 + 2 * s.entries();
-    if part.len() < size {
-        return Err(3);
-    }
-    let m: Vec<u16> = (0..s.entries()).map(|k| word(part, 5 + k)).collect();
-    if m.iter().any(|&x| x >= s.p) {
-        return Err(4);
-    }
-    Ok((s, m, size))
 }
 
 fn read_file(file: &[u8]) -> Result<Holder, Fault> {
-    let mut at = 0;
-    let mut setup: Option<(Params, Vec<u16>)> = None;
-    let mut state: Option<Holder> = None;
+    let missing = (11, file.len());
+    if file.is_empty() {
+        return Err(missing);
+    }
+    let (s, m) = first_record(file).map_err(|k| (k, 0))?;
+    let mut at = 10 + 2 * s.entries();
+    if at == file.len() {
+        return Err(missing);
+    }
+    let mut x = second_record(s, m, &file[at..]).map_err(|k| (k, at))?;
+    at += 6 + 4 * s.d();
     while at < file.len() {
-        let part = &file[at..];
-        let fault = |k: u16| Err((k, at));
-        if part.len() < 2 {
-            return fault(3);
-        }
-        let mark = word(part, 0);
-        match (&mut setup, &mut state) {
-            (None, _) => {
-                if mark != SU {
-                    return fault(8);
-                }
-                match read_setup(part) {
-                    Err(k) => return fault(k),
-                    Ok((s, m, size)) => {
-                        setup = Some((s, m));
-                        at += size;
-                    }
-                }
-            }
-            (Some((s, m)), None) => {
-                if mark == SU {
-                    return fault(10);
-                }
-                if mark != DL {
-                    return fault(8);
-                }
-                let d = s.d();
-                let size = 6 + 4 * d;
-                if part.len() < size {
-                    return fault(3);
-                }
-                let (dealing, holder) = (word(part, 1), word(part, 2));
-                let g: Vec<u16> = (0..d).map(|k| word(part, 3 + k)).collect();
-                let h: Vec<u16> = (0..d).map(|k| word(part, 3 + d + k)).collect();
-                let mut f = Faults(vec![]);
-                f.elements(s.p, &g);
-                f.elements(s.p, &h);
-                f.when(5, holder >= s.n);
-                f.when(9, dealing == 0);
-                if let Some(k) = f.lowest() {
-                    return fault(k);
-                }
-                let n = s.n as usize;
-                state = Some(Holder { s: *s, m: m.clone(), dealing, holder, g, h, values: vec![None; n], verdicts: vec![None; n] });
-                at += size;
-            }
-            (Some(_), Some(st)) => {
-                if mark == SU || mark == DL {
-                    return fault(10);
-                }
-                if mark != PV && mark != VD {
-                    return fault(8);
-                }
-                let size = if mark == PV { 10 } else { 8 };
-                if part.len() < size {
-                    return fault(3);
-                }
-                let mut f = Faults(vec![]);
-                let from = word(part, 2);
-                f.when(5, from >= st.s.n);
-                f.when(9, word(part, 1) == 0 || word(part, 1) != st.dealing);
-                let (kept, value) = if mark == PV {
-                    let (to, value) = (word(part, 3), word(part, 4));
-                    f.when(4, value >= st.s.p);
-                    f.when(5, to >= st.s.n || to != st.holder);
-                    (&mut st.values, value)
-                } else {
-                    let verdict = word(part, 3);
-                    f.when(12, verdict > 1);
-                    (&mut st.verdicts, verdict)
-                };
-                f.when(10, (from as usize) < kept.len() && kept[from as usize].is_some());
-                if let Some(k) = f.lowest() {
-                    return fault(k);
-                }
-                kept[from as usize] = Some(value);
-                at += size;
-            }
-        }
+        at += later_record(&mut x, &file[at..]).map_err(|k| (k, at))?;
     }
-    match state {
-        Some(st) if st.values.iter().chain(&st.verdicts).all(|x| x.is_some()) => Ok(st),
-        _ => Err((11, file.len())),
-    }
+    if x.values.iter().chain(&x.verdicts).all(|v| v.is_some()) { Ok(x) } else { Err(missing) }
 }
 
 /// What the holder program prints for a file of at most 4,096 bytes.
@@ -597,4 +755,14 @@ pub fn holder(file: &[u8]) -> String {
         }
     }
     text
+}
+
+/// What the holder program prints, into a buffer of 256 bytes, and how many of them it is.
+pub fn holder_file(file: &[u8], out: &mut [u8]) -> Answer {
+    if file.len() > 4096 || out.len() != 256 {
+        return refused(3);
+    }
+    let text = holder(file);
+    out[..text.len()].copy_from_slice(text.as_bytes());
+    given(&[text.len() as u16])
 }

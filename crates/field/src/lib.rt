@@ -49,12 +49,27 @@ pub fn no_field(p: u16) -> bool
     }
 }
 
-// The remainder of x.
-pub fn residue(p: u16, x: u64) -> u16
+// The remainder of x by a division.
+fn remainder(p: u16, x: u64) -> u16
     requires { ⌜ 0 < p ⌝ }
     ensures { λ r. ⌜ r ≡ x % p ⌝ }
 {
     (x % (p as u64)) as u16
+}
+
+// The remainder of x. A constant modulus needs no division.
+pub fn residue(p: u16, x: u64) -> u16
+    requires { ⌜ 0 < p ⌝ }
+    ensures { λ r. ⌜ r ≡ x % p ⌝ }
+{
+    match p {
+        Field::P2 => remainder(2, x),
+        Field::P7 => remainder(7, x),
+        Field::P251 => remainder(251, x),
+        Field::P257 => remainder(257, x),
+        Field::P65521 => remainder(65521, x),
+        _ => remainder(p, x),
+    }
 }
 
 // The product of two elements.

@@ -8,7 +8,6 @@ ghost use lib.ListN.{length, take};
 ghost use Rattle.base.specs.Rules.{refusal};
 ghost use Rattle.scheme.specs.Setup.{IsSetup, setupOf};
 ghost use Rattle.scheme.specs.Calls.{judgeRules, outcomeRules};
-ghost use Rattle.scheme.specs.Answers.{paperWritten};
 ghost use Rattle.records.specs.Records.{markSU, setupSize, dealingSize, paramsAt, readSetupRules};
 ghost use Rattle.words.specs.Words.{wordAt};
 ghost use Rattle.received.specs.Received.{Bounded};
@@ -26,7 +25,6 @@ use scheme::Judgement;
 use scheme::Outcome;
 use scheme::Params;
 use scheme::Settled;
-use scheme::Written;
 
 // How many bytes were printed.
 pub enum Printing {
@@ -219,16 +217,6 @@ fn print_dealing(s: Params, matrix: &[u16], file: &[u8], out: &mut [u8]) -> usiz
     }
 }
 
-// The number that a call which writes gives when it declines, 0 where it wrote.
-fn declined(written: Written) -> u16
-    ensures { λ r. ⌜ r ≡ paperWritten written .number ⌝ }
-{
-    match written {
-        Written::Done => 0,
-        Written::Refused(k) => k,
-    }
-}
-
 // From the numbers of SU, all in order, on.
 fn print_setup(s: Params, file: &[u8], out: &mut [u8]) -> usize
     requires { ⌜ (s ≡ paramsAt (now file)) × (refusal (readSetupRules (now file)) ≡ 0) ⌝ }
@@ -237,7 +225,7 @@ fn print_setup(s: Params, file: &[u8], out: &mut [u8]) -> usize
 {
     let len = scheme::matrix_len(s);
     let mut matrix = [0u16; 512];
-    let k = declined(reading::read_setup_matrix(file, &mut matrix[..len]));
+    let k = scheme::declined(reading::read_setup_matrix(file, &mut matrix[..len]));
     if k != 0 {
         return report::report_refusal(k, 0, out);
     }

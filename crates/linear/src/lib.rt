@@ -8,6 +8,7 @@ ghost use Rattle.base.specs.Matrix.{Below};
 ghost use Rattle.linear.specs.Dot.{at, dot, along};
 ghost use Rattle.linear.specs.Elimination.{pivotRow, alone, subEntry, subTo, scaleEntry, scaleTo, flatPivot, flatShown, flatUnsolved, flatFixes};
 ghost use Rattle.linear.specs.Contracts.{buffers, Fits, Ready, RowCleared, ColumnCleared, RowUsed, ColumnPassed, Reduction};
+use field::Field;
 
 // The product of d entries of u from u_at on and d entries of v from v_at on, v_step apart: summed in u64 and reduced once.
 pub fn dot_product(
@@ -43,8 +44,8 @@ fn sub_entry(y: u64, x: u64, f: u16, p: u16) -> u16
     ((y + g * x) % (p as u64)) as u16
 }
 
-// The row that starts at t becomes that row less f times the row that starts at q.
-fn sub_row(a: &mut [u16], width: usize, t: usize, q: usize, f: u16, p: u16)
+// The row that starts at t becomes that row less f times the row that starts at q: the loop.
+fn sub_row_by(a: &mut [u16], width: usize, t: usize, q: usize, f: u16, p: u16)
     requires { ⌜ (t + width ≤ length (now a)) × (q + width ≤ length (now a)) × (f ≤ p) × (0 < p) ⌝ }
     ensures { λ _. ⌜ now (a .exit) ≡ subTo p f t q width (now (a .entry)) ⌝ }
 {
@@ -54,6 +55,21 @@ fn sub_row(a: &mut [u16], width: usize, t: usize, q: usize, f: u16, p: u16)
         let y = base::at(a, t + c);
         a[t + c] = sub_entry(y, x, f, p);
         c += 1;
+    }
+}
+
+// The row that starts at t becomes that row less f times the row that starts at q. The modulus is a constant in each loop.
+fn sub_row(a: &mut [u16], width: usize, t: usize, q: usize, f: u16, p: u16)
+    requires { ⌜ (t + width ≤ length (now a)) × (q + width ≤ length (now a)) × (f ≤ p) × (0 < p) ⌝ }
+    ensures { λ _. ⌜ now (a .exit) ≡ subTo p f t q width (now (a .entry)) ⌝ }
+{
+    match p {
+        Field::P2 => sub_row_by(a, width, t, q, f, 2),
+        Field::P7 => sub_row_by(a, width, t, q, f, 7),
+        Field::P251 => sub_row_by(a, width, t, q, f, 251),
+        Field::P257 => sub_row_by(a, width, t, q, f, 257),
+        Field::P65521 => sub_row_by(a, width, t, q, f, 65521),
+        _ => sub_row_by(a, width, t, q, f, p),
     }
 }
 
@@ -95,8 +111,8 @@ fn scale_entry(k: u16, x: u64, p: u16) -> u16
     ((k as u64) * x % (p as u64)) as u16
 }
 
-// The row that starts at t becomes k times that row.
-fn scale_row(a: &mut [u16], width: usize, t: usize, k: u16, p: u16)
+// The row that starts at t becomes k times that row: the loop.
+fn scale_row_by(a: &mut [u16], width: usize, t: usize, k: u16, p: u16)
     requires { ⌜ (t + width ≤ length (now a)) × (0 < p) ⌝ }
     ensures { λ _. ⌜ now (a .exit) ≡ scaleTo p k t width (now (a .entry)) ⌝ }
 {
@@ -105,6 +121,21 @@ fn scale_row(a: &mut [u16], width: usize, t: usize, k: u16, p: u16)
         let x = base::at(a, t + c);
         a[t + c] = scale_entry(k, x, p);
         c += 1;
+    }
+}
+
+// The row that starts at t becomes k times that row. The modulus is a constant in each loop.
+fn scale_row(a: &mut [u16], width: usize, t: usize, k: u16, p: u16)
+    requires { ⌜ (t + width ≤ length (now a)) × (0 < p) ⌝ }
+    ensures { λ _. ⌜ now (a .exit) ≡ scaleTo p k t width (now (a .entry)) ⌝ }
+{
+    match p {
+        Field::P2 => scale_row_by(a, width, t, k, 2),
+        Field::P7 => scale_row_by(a, width, t, k, 7),
+        Field::P251 => scale_row_by(a, width, t, k, 251),
+        Field::P257 => scale_row_by(a, width, t, k, 257),
+        Field::P65521 => scale_row_by(a, width, t, k, 65521),
+        _ => scale_row_by(a, width, t, k, p),
     }
 }
 

@@ -9,6 +9,7 @@ ghost use lib.ListN.{length};
 ghost use Rattle.base.specs.Rules.{orWhen, refusal};
 ghost use Rattle.base.specs.Matrix.{allBelow};
 ghost use Rattle.scheme.specs.Setup.{setupOf};
+ghost use Rattle.scheme.specs.Answers.{paperWritten};
 ghost use Rattle.scheme.specs.Calls.{outside, limits};
 
 // The numbers of a setup; the matrix is lent beside them.
@@ -87,6 +88,16 @@ pub enum Opened {
     Undetermined(u16),
     Inconsistent,
     Refused(u16),
+}
+
+// The number that a call which writes gives when it declines, 0 where it wrote.
+pub fn declined(written: Written) -> u16
+    ensures { λ r. ⌜ r ≡ paperWritten written .number ⌝ }
+{
+    match written {
+        Written::Done => 0,
+        Written::Refused(k) => k,
+    }
 }
 
 // d = ℓ + e.

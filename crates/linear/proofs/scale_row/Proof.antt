@@ -1,72 +1,81 @@
--- The loop writes the definition column by column.
-use Prim.Native.Nat.{_-_, _≤_}
-use mathlib.Core.Path.{_≡_}
-use native.Mathlib.Omega.{arith}
+-- Each arm of the match is the loop with the number itself as its modulus.
 use borrow.Author.Needs.{needs}
-use lib.ListN.{length}
-use Rattle.linear.specs.Elimination.{scaleTo}
-use Rattle.linear.proofs.Flat.{scale-step}
 use Rattle.linear.proofs.scale_row.Statement.{statement}
 use Rattle.linear.proofs.scale_row.Tie as tie
 
-abbrev Inv-loop : tie.InvT-loop
-Inv-loop a₀ width t k p c₀ a c = (c ≤ width) × (length a ≡ length a₀) × (a ≡ scaleTo p k t c a₀)
+scale-row-by-requires : tie.Need-scale-row-by-requires
+scale-row-by-requires c κs = search needs
 
-abbrev μ-loop : tie.MeasureT-loop
-μ-loop a₀ width t k p c₀ a c = width - c
+scale-row-by-requires-2 : tie.Need-scale-row-by-requires-2
+scale-row-by-requires-2 c κs = search needs
 
-loop-holds : tie.Need-loop-holds Inv-loop μ-loop
-unfolding scaleTo
-loop-holds c = search needs
+scale-row-by-requires-3 : tie.Need-scale-row-by-requires-3
+scale-row-by-requires-3 c κs = search needs
 
-add-at : tie.Need-add-at Inv-loop μ-loop
-add-at c = search needs
+scale-row-by-requires-4 : tie.Need-scale-row-by-requires-4
+scale-row-by-requires-4 c κs = search needs
 
-at-requires : tie.Need-at-requires Inv-loop μ-loop
-at-requires c κs = search needs
+scale-row-by-requires-5 : tie.Need-scale-row-by-requires-5
+scale-row-by-requires-5 c κs = search needs
 
-scale-entry-requires : tie.Need-scale-entry-requires Inv-loop μ-loop
-scale-entry-requires c κs = search needs
+scale-row-by-requires-6 : tie.Need-scale-row-by-requires-6
+scale-row-by-requires-6 c κs = search needs
 
-add-a : tie.Need-add-a Inv-loop μ-loop
-add-a c = search needs
-
-mul-a : tie.Need-mul-a Inv-loop μ-loop
-mul-a c = search needs
-
-slice-write-a : tie.Need-slice-write-a Inv-loop μ-loop
-slice-write-a c = search needs
-
-add-c : tie.Need-add-c Inv-loop μ-loop
-add-c c = search needs
-
-loop-less : tie.Need-loop-less Inv-loop μ-loop
-loop-less c = search needs
-
-loop-again : tie.Need-loop-again Inv-loop μ-loop
-loop-again c = (search needs, search needs, rw scale-step (cc))
-
-same-length : tie.Need-same-length Inv-loop μ-loop
+same-length : tie.Need-same-length
 same-length c = search needs
 
-returns : tie.Need-returns Inv-loop μ-loop
-returns c = let e : c .before .loop .c ≡ c .before .before .before .args .width = omega arith in cc
+returns : tie.Need-returns
+returns c = rw (c .before .before .before .before .match .keys1) (c .before .before .scale-row-by .ensures)
+
+same-length-2 : tie.Need-same-length-2
+same-length-2 c = search needs
+
+returns-2 : tie.Need-returns-2
+returns-2 c = rw (c .before .before .before .before .match .keys2) (c .before .before .scale-row-by2 .ensures)
+
+same-length-3 : tie.Need-same-length-3
+same-length-3 c = search needs
+
+returns-3 : tie.Need-returns-3
+returns-3 c = rw (c .before .before .before .before .match .keys3) (c .before .before .scale-row-by3 .ensures)
+
+same-length-4 : tie.Need-same-length-4
+same-length-4 c = search needs
+
+returns-4 : tie.Need-returns-4
+returns-4 c = rw (c .before .before .before .before .match .keys4) (c .before .before .scale-row-by4 .ensures)
+
+same-length-5 : tie.Need-same-length-5
+same-length-5 c = search needs
+
+returns-5 : tie.Need-returns-5
+returns-5 c = rw (c .before .before .before .before .match .keys5) (c .before .before .scale-row-by5 .ensures)
+
+same-length-6 : tie.Need-same-length-6
+same-length-6 c = search needs
+
+returns-6 : tie.Need-returns-6
+returns-6 c = search needs
 
 pub scale-row-spec : {M : Type 1} → statement M
 scale-row-spec =
     tie.close
     (tie.spec
-    Inv-loop
-    μ-loop
-    loop-holds
-    add-at
-    at-requires
-    scale-entry-requires
-    add-a
-    mul-a
-    slice-write-a
-    add-c
-    loop-less
-    loop-again
+    scale-row-by-requires
+    scale-row-by-requires-2
+    scale-row-by-requires-3
+    scale-row-by-requires-4
+    scale-row-by-requires-5
+    scale-row-by-requires-6
     same-length
-    returns)
+    returns
+    same-length-2
+    returns-2
+    same-length-3
+    returns-3
+    same-length-4
+    returns-4
+    same-length-5
+    returns-5
+    same-length-6
+    returns-6)

@@ -1,0 +1,80 @@
+-- The loop writes the definition column by column.
+use Prim.Native.Nat.{_-_, _≤_}
+use mathlib.Core.Path.{_≡_}
+use native.Mathlib.Omega.{arith}
+use borrow.Author.Needs.{needs}
+use lib.ListN.{length}
+use Rattle.linear.specs.Elimination.{subTo}
+use Rattle.linear.proofs.Flat.{sub-step}
+use Rattle.linear.proofs.sub_row_by.Statement.{statement}
+use Rattle.linear.proofs.sub_row_by.Tie as tie
+
+abbrev Inv-loop : tie.InvT-loop
+Inv-loop a₀ width t q f p c₀ a c = (c ≤ width) × (length a ≡ length a₀) × (a ≡ subTo p f t q c a₀)
+
+abbrev μ-loop : tie.MeasureT-loop
+μ-loop a₀ width t q f p c₀ a c = width - c
+
+loop-holds : tie.Need-loop-holds Inv-loop μ-loop
+unfolding subTo
+loop-holds c = search needs
+
+add-at : tie.Need-add-at Inv-loop μ-loop
+add-at c = search needs
+
+at-requires : tie.Need-at-requires Inv-loop μ-loop
+at-requires c κs = search needs
+
+add-at-2 : tie.Need-add-at-2 Inv-loop μ-loop
+add-at-2 c = search needs
+
+at-requires-2 : tie.Need-at-requires-2 Inv-loop μ-loop
+at-requires-2 c κs = search needs
+
+sub-entry-requires : tie.Need-sub-entry-requires Inv-loop μ-loop
+sub-entry-requires c κs = search needs
+
+add-a : tie.Need-add-a Inv-loop μ-loop
+add-a c = search needs
+
+mul-a : tie.Need-mul-a Inv-loop μ-loop
+mul-a c = search needs
+
+slice-write-a : tie.Need-slice-write-a Inv-loop μ-loop
+slice-write-a c = search needs
+
+add-c : tie.Need-add-c Inv-loop μ-loop
+add-c c = search needs
+
+loop-less : tie.Need-loop-less Inv-loop μ-loop
+loop-less c = search needs
+
+loop-again : tie.Need-loop-again Inv-loop μ-loop
+loop-again c = (search needs, search needs, rw sub-step (cc))
+
+same-length : tie.Need-same-length Inv-loop μ-loop
+same-length c = search needs
+
+returns : tie.Need-returns Inv-loop μ-loop
+returns c = let e : c .before .loop .c ≡ c .before .before .before .args .width = omega arith in cc
+
+pub sub-row-by-spec : {M : Type 1} → statement M
+sub-row-by-spec =
+    tie.close
+    (tie.spec
+    Inv-loop
+    μ-loop
+    loop-holds
+    add-at
+    at-requires
+    add-at-2
+    at-requires-2
+    sub-entry-requires
+    add-a
+    mul-a
+    slice-write-a
+    add-c
+    loop-less
+    loop-again
+    same-length
+    returns)

@@ -1,0 +1,193 @@
+//! The compiled library against the reference, in one process, on fresh random inputs: `compare CALLS [SEED]` compares CALLS calls and a fifth as many
+//! files. Each difference is printed with its input; the last line says how many were compared and how many differ.
+
+#[allow(dead_code)]
+mod cases;
+#[allow(dead_code)]
+mod draw;
+use cases::*;
+use draw::*;
+use reference::{holder_file, is_of_kind};
+
+/// The functions of include/mavdrusek.h.
+mod library {
+    extern "C" {
+        pub fn mavdrusek_field(p: u16) -> u16;
+        pub fn mavdrusek_points(p: u16, l: u16, e: u16, n: u16, matrix: *mut u16, matrix_len: usize) -> u16;
+        pub fn mavdrusek_deal(
+            p: u16, l: u16, e: u16, n: u16, matrix: *const u16, matrix_len: usize, secrets: *const u16, secrets_len: usize, random: *const u16,
+            random_len: usize, holder: u16, g: *mut u16, g_len: usize, h: *mut u16, h_len: usize,
+        ) -> u16;
+        pub fn mavdrusek_deal_all(
+            p: u16, l: u16, e: u16, n: u16, matrix: *const u16, matrix_len: usize, secrets: *const u16, secrets_len: usize, random: *const u16,
+            random_len: usize, gs: *mut u16, gs_len: usize, hs: *mut u16, hs_len: usize,
+        ) -> u16;
+        pub fn mavdrusek_pair_value(
+            p: u16, l: u16, e: u16, n: u16, matrix: *const u16, matrix_len: usize, g: *const u16, g_len: usize, to: u16, value: *mut u16,
+        ) -> u16;
+        pub fn mavdrusek_judge(
+            p: u16, l: u16, e: u16, n: u16, matrix: *const u16, matrix_len: usize, h: *const u16, h_len: usize, values: *const u16, values_len: usize,
+            verdict: *mut u16, named: *mut u16,
+        ) -> u16;
+        pub fn mavdrusek_outcome(
+            p: u16, l: u16, e: u16, n: u16, g: *const u16, g_len: usize, verdicts: *const u16, verdicts_len: usize, shares: *mut u16,
+            shares_len: usize, kept: *mut u16, named: *mut u16,
+        ) -> u16;
+        pub fn mavdrusek_rehearse(
+            p: u16, l: u16, e: u16, n: u16, matrix: *const u16, matrix_len: usize, gs: *const u16, gs_len: usize, hs: *const u16, hs_len: usize,
+            fair: *mut u16, checker: *mut u16, sender: *mut u16,
+        ) -> u16;
+        pub fn mavdrusek_combine(p: u16, constants: *const u16, constants_len: usize, shares: *const u16, shares_len: usize, value: *mut u16) -> u16;
+        pub fn mavdrusek_determines(p: u16, l: u16, e: u16, n: u16, matrix: *const u16, matrix_len: usize, set: u32, yes: *mut u16) -> u16;
+        pub fn mavdrusek_private(p: u16, l: u16, e: u16, n: u16, matrix: *const u16, matrix_len: usize, set: u32, yes: *mut u16) -> u16;
+        pub fn mavdrusek_judge_set(
+            p: u16, l: u16, e: u16, n: u16, matrix: *const u16, matrix_len: usize, set: u32, position: u16, out: *mut u16, out_len: usize,
+            kind: *mut u16,
+        ) -> u16;
+        pub fn mavdrusek_open(
+            p: u16, l: u16, e: u16, n: u16, matrix: *const u16, matrix_len: usize, set: u32, shares: *const u16, shares_len: usize,
+            secrets: *mut u16, secrets_len: usize, position: *mut u16,
+        ) -> u16;
+        pub fn mavdrusek_write_setup(
+            p: u16, l: u16, e: u16, n: u16, matrix: *const u16, matrix_len: usize, out: *mut u8, out_len: usize,
+        ) -> u16;
+        pub fn mavdrusek_write_dealing(
+            p: u16, l: u16, e: u16, n: u16, dealing: u16, holder: u16, g: *const u16, g_len: usize, h: *const u16, h_len: usize, out: *mut u8,
+            out_len: usize,
+        ) -> u16;
+        pub fn mavdrusek_write_pair_value(
+            p: u16, l: u16, e: u16, n: u16, dealing: u16, sender: u16, receiver: u16, value: u16, out: *mut u8, out_len: usize,
+        ) -> u16;
+        pub fn mavdrusek_write_verdict(
+            p: u16, l: u16, e: u16, n: u16, dealing: u16, holder: u16, verdict: u16, out: *mut u8, out_len: usize,
+        ) -> u16;
+        pub fn mavdrusek_write_share(
+            p: u16, l: u16, e: u16, n: u16, dealing: u16, holder: u16, column: u16, value: u16, out: *mut u8, out_len: usize,
+        ) -> u16;
+        pub fn mavdrusek_read_setup_head(part: *const u8, part_len: usize, p: *mut u16, l: *mut u16, e: *mut u16, n: *mut u16) -> u16;
+        pub fn mavdrusek_read_setup_matrix(part: *const u8, part_len: usize, matrix: *mut u16, matrix_len: usize) -> u16;
+        pub fn mavdrusek_read_dealing(
+            p: u16, l: u16, e: u16, n: u16, part: *const u8, part_len: usize, g: *mut u16, g_len: usize, h: *mut u16, h_len: usize,
+            dealing: *mut u16, holder: *mut u16,
+        ) -> u16;
+        pub fn mavdrusek_read_pair_value(
+            p: u16, l: u16, e: u16, n: u16, part: *const u8, part_len: usize, dealing: *mut u16, sender: *mut u16, receiver: *mut u16,
+            value: *mut u16,
+        ) -> u16;
+        pub fn mavdrusek_read_verdict(
+            p: u16, l: u16, e: u16, n: u16, part: *const u8, part_len: usize, dealing: *mut u16, holder: *mut u16, verdict: *mut u16,
+        ) -> u16;
+        pub fn mavdrusek_read_share(
+            p: u16, l: u16, e: u16, n: u16, part: *const u8, part_len: usize, dealing: *mut u16, holder: *mut u16, column: *mut u16, value: *mut u16,
+        ) -> u16;
+        pub fn mavdrusek_holder_file(file: *const u8, file_len: usize, out: *mut u8, out_len: usize, count: *mut usize) -> u16;
+    }
+}
+use library::*;
+
+/// What the compiled library makes of a case.
+fn ours(case: &Case) -> After {
+    let set = case.set();
+    let Case { call, numbers: x, mut words, mut bytes } = case.clone();
+    let [p, l, e, n, ..] = x;
+    let mut places = [UNTOUCHED; 4];
+    let [a, b, c, d] = &mut places;
+    let (part, part_len) = (bytes.as_mut_ptr(), bytes.len());
+    // Every pointer comes with the length of the vector behind it, and no two vectors overlap.
+    let number = unsafe {
+        match (call, &mut words[..]) {
+            (0, [m]) => mavdrusek_points(p, l, e, n, m.as_mut_ptr(), m.len()),
+            (1, [m, s, r, g, h]) => mavdrusek_deal(
+                p, l, e, n, m.as_ptr(), m.len(), s.as_ptr(), s.len(), r.as_ptr(), r.len(), x[4], g.as_mut_ptr(), g.len(), h.as_mut_ptr(), h.len(),
+            ),
+            (2, [m, s, r, g, h]) => mavdrusek_deal_all(
+                p, l, e, n, m.as_ptr(), m.len(), s.as_ptr(), s.len(), r.as_ptr(), r.len(), g.as_mut_ptr(), g.len(), h.as_mut_ptr(), h.len(),
+            ),
+            (3, [m, g]) => mavdrusek_pair_value(p, l, e, n, m.as_ptr(), m.len(), g.as_ptr(), g.len(), x[4], a),
+            (4, [m, h, v]) => mavdrusek_judge(p, l, e, n, m.as_ptr(), m.len(), h.as_ptr(), h.len(), v.as_ptr(), v.len(), a, b),
+            (5, [g, v, s]) => mavdrusek_outcome(p, l, e, n, g.as_ptr(), g.len(), v.as_ptr(), v.len(), s.as_mut_ptr(), s.len(), a, b),
+            (6, [m, g, h]) => mavdrusek_rehearse(p, l, e, n, m.as_ptr(), m.len(), g.as_ptr(), g.len(), h.as_ptr(), h.len(), a, b, c),
+            (7, [k, s]) => mavdrusek_combine(p, k.as_ptr(), k.len(), s.as_ptr(), s.len(), a),
+            (8, [m, out]) => mavdrusek_judge_set(p, l, e, n, m.as_ptr(), m.len(), set, x[6], out.as_mut_ptr(), out.len(), a),
+            (9, [m]) => mavdrusek_determines(p, l, e, n, m.as_ptr(), m.len(), set, a),
+            (10, [m]) => mavdrusek_private(p, l, e, n, m.as_ptr(), m.len(), set, a),
+            (11, [m, s, out]) => mavdrusek_open(p, l, e, n, m.as_ptr(), m.len(), set, s.as_ptr(), s.len(), out.as_mut_ptr(), out.len(), a),
+            (13, [m]) => mavdrusek_write_setup(p, l, e, n, m.as_ptr(), m.len(), part, part_len),
+            (14, [g, h]) => mavdrusek_write_dealing(p, l, e, n, x[4], x[5], g.as_ptr(), g.len(), h.as_ptr(), h.len(), part, part_len),
+            (15, []) => mavdrusek_write_pair_value(p, l, e, n, x[4], x[5], x[6], x[7], part, part_len),
+            (16, []) => mavdrusek_write_verdict(p, l, e, n, x[4], x[5], x[6], part, part_len),
+            (17, []) => mavdrusek_write_share(p, l, e, n, x[4], x[5], x[6], x[7], part, part_len),
+            (18, []) => mavdrusek_read_setup_head(part, part_len, a, b, c, d),
+            (19, [m]) => mavdrusek_read_setup_matrix(part, part_len, m.as_mut_ptr(), m.len()),
+            (20, [g, h]) => mavdrusek_read_dealing(p, l, e, n, part, part_len, g.as_mut_ptr(), g.len(), h.as_mut_ptr(), h.len(), a, b),
+            (21, []) => mavdrusek_read_pair_value(p, l, e, n, part, part_len, a, b, c, d),
+            (22, []) => mavdrusek_read_verdict(p, l, e, n, part, part_len, a, b, c),
+            (23, []) => mavdrusek_read_share(p, l, e, n, part, part_len, a, b, c, d),
+            (24, []) => mavdrusek_field(p),
+            _ => panic!("no such call: {case:?}"),
+        }
+    };
+    After { number, places: places[..case.of().places].to_vec(), words, bytes }
+}
+
+/// Whether both make the same of a case. Of the judgement of a set only the kind is fixed and that its buffer holds one of that kind, then zeros.
+fn agree(c: &Case) -> bool {
+    let (mut left, right) = (ours(c), c.run());
+    if c.call == 8 && left.number == 0 && left.places == right.places && left.words[1].len() == 32 {
+        if !is_of_kind(c.params(), &c.words[0], c.set(), c.numbers[6], left.places[0], &left.words[1]) {
+            println!("differ: {c:?}\n  ours {left:?}, not one of its kind");
+            return false;
+        }
+        left.words[1] = right.words[1].clone();
+    }
+    if left != right {
+        println!("differ: {c:?}\n  ours {left:?}\n  reference {right:?}");
+    }
+    left == right
+}
+
+/// Whether both print the same for a holder's file.
+fn agree_on_file(file: &[u8], lent: &[u8]) -> bool {
+    let (mut left, mut right) = (lent.to_vec(), lent.to_vec());
+    let mut count = UNTOUCHED as usize;
+    let number = unsafe { mavdrusek_holder_file(file.as_ptr(), file.len(), left.as_mut_ptr(), left.len(), &mut count) };
+    let answer = holder_file(file, &mut right);
+    let expected = answer.values.first().map_or(UNTOUCHED as usize, |&k| k as usize);
+    let same = number == answer.number && count == expected && left == right;
+    if !same {
+        println!("differ: file {file:?}, buffer {lent:?}\n  ours {number}, {count} bytes, {left:?}\n  reference {answer:?}, {right:?}");
+    }
+    same
+}
+
+/// A file and the buffer for its text, now and then one of a length that is refused.
+fn draw_file(r: &mut Random) -> (Vec<u8>, Vec<u8>) {
+    let mut file = draw(r, FILE).bytes;
+    if r.chance(200) {
+        let size = r.one(&[4095, 4096, 4097, 5000]);
+        file.resize(size, 0);
+    }
+    let size = if r.chance(50) { r.one(&[0, 255, 257]) } else { 256 };
+    (file, r.noise_bytes(size))
+}
+
+fn main() {
+    let args: Vec<u64> = std::env::args().skip(1).map(|x| x.parse().expect("compare CALLS [SEED]")).collect();
+    let calls = args[0];
+    let clock = || std::time::SystemTime::now().duration_since(std::time::UNIX_EPOCH).unwrap().as_nanos() as u64;
+    let seed = args.get(1).copied().unwrap_or_else(clock);
+    println!("seed {seed}, {calls} calls, {} files", calls.div_ceil(5));
+    let mut r = Random(seed);
+    let mut differ = 0;
+    let others: Vec<u16> = (0..CALLS.len() as u16).filter(|&call| call != FILE).collect();
+    for k in 0..calls {
+        let c = draw(&mut r, others[k as usize % others.len()]);
+        differ += !agree(&c) as u64;
+    }
+    for _ in 0..calls.div_ceil(5) {
+        let (file, lent) = draw_file(&mut r);
+        differ += !agree_on_file(&file, &lent) as u64;
+    }
+    println!("{} compared, {differ} differ", calls + calls.div_ceil(5));
+    std::process::exit((differ > 0) as i32);
+}

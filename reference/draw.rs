@@ -1,0 +1,439 @@
+//! Seeded draws of cases: sizes, matrices, calls in order, and damage.
+
+use crate::cases::*;
+use reference::*;
+
+/// SplitMix64.
+pub struct Random(pub u64);
+
+impl Random {
+    pub fn next(&mut self) -> u64 {
+        self.0 = self.0.wrapping_add(0x9E3779B97F4A7C15);
+        let mut z = self.0;
+        z = (z ^ z >> 30).wrapping_mul(0xBF58476D1CE4E5B9);
+        z = (z ^ z >> 27).wrapping_mul(0x94D049BB133111EB);
+        z ^ z >> 31
+    }
+    pub fn below(&mut self, n: usize) -> usize {
+        (self.next() % n as u64) as usize
+    }
+    pub fn chance(&mut self, one_in: usize) -> bool {
+        self.below(one_in) == 0
+    }
+    pub fn one<T: Copy>(&mut self, of: &[T]) -> T {
+        of[self.below(of.len())]
+    }
+    pub fn elements(&mut self, p: u16, n: usize) -> Vec<u16> {
+        (0..n).map(|_| self.below(p as usize) as u16).collect()
+    }
+    /// What a lent buffer holds before a call.
+    pub fn noise(&mut self, n: usize) -> Vec<u16> {
+        self.elements(u16::MAX, n)
+    }
+    pub fn noise_bytes(&mut self, n: usize) -> Vec<u8> {
+        (0..n).map(|_| self.below(256) as u8).collect()
+    }
+}
+
+// The kinds of matrix.
+pub const ZERO: usize = 0;
+pub const REPEATED: usize = 1;
+pub const DEPENDENT: usize = 2;
+pub const POINTS: usize = 3;
+pub const ARBITRARY: usize = 5;
+pub const SPARSE: usize = 6;
+
+/// What a case is drawn from.
+pub struct Draw<'a> {
+    r: &'a mut Random,
+    s: Params,
+    m: Vec<u16>,
+}
+
+impl<'a> Draw<'a> {
+    /// Small sizes, now and then the largest, and a matrix of any kind but sparse.
+    pub fn new(r: &'a mut Random) -> Self {
+        let p = PRIMES[r.below(5)];
+        let large = r.chance(12);
+        let pick = |r: &mut Random, small: usize, most: usize| if large { most } else { 1 + r.below(small) } as u16;
+        let (l, e, n) = (pick(r, 3, 8), pick(r, 3, 8), pick(r, 6, 32));
+        let s = Params { p, l, e, n };
+        let m = r.elements(p, s.entries());
+        let kind = r.below(6);
+        Draw::of(r, s, m, kind)
+    }
+
+    /// Any sizes and a matrix of any kind.
+    pub fn any(r: &'a mut Random) -> Self {
+        let p = PRIMES[r.below(5)];
+        let s = Params { p, l: 1 + r.below(8) as u16, e: 1 + r.below(8) as u16, n: 1 + r.below(32) as u16 };
+        let kind = r.below(7);
+        Draw::with(r, s, kind)
+    }
+
+    /// More holders than columns, mostly, so that many sets determine the secrets.
+    pub fn wide(r: &'a mut Random) -> Self {
+        let p = PRIMES[r.below(5)];
+        let s = Params { p, l: 1 + r.below(2) as u16, e: 1 + r.below(2) as u16, n: 4 + r.below(7) as u16 };
+        let kind = r.one(&[REPEATED, POINTS, ARBITRARY, SPARSE]);
+        Draw::with(r, s, kind)
+    }
+
+    pub fn with(r: &'a mut Random, s: Params, kind: usize) -> Self {
+        let m = r.elements(s.p, s.entries());
+        Draw::of(r, s, m, kind)
+    }
+
+    fn of(r: &'a mut Random, s: Params, mut m: Vec<u16>, kind: usize) -> Self {
+        let (d, n) = (s.d(), s.n as usize);
+        match kind {
+            ZERO => m.fill(0),
+            REPEATED => {
+                for i in 1..n {
+                    if r.chance(2) {
+                        let from = r.below(i);
+                        m.copy_within(from * d..(from + 1) * d, i * d);
+                    }
+                }
+            }
+            DEPENDENT => {
+                for i in 2..n {
+                    for c in 0..d {
+                        m[i * d + c] = ((m[c] as u64 * (i as u64 + 1) + m[d + c] as u64) % s.p as u64) as u16;
+                    }
+                }
+            }
+            POINTS | 4 => {
+                points(s, &mut m);
+            }
+            SPARSE => m.iter_mut().for_each(|x| *x = if r.chance(3) { *x } else { 0 }),
+            _ => {}
+        }
+        Draw { r, s, m }
+    }
+
+    /// Empty, all, any, or about as many members as there are columns.
+    fn set(&mut self) -> u32 {
+        let n = self.s.n as usize;
+        let all = if n == 32 { u32::MAX } else { (1 << n) - 1 };
+        match self.r.below(8) {
+            0 => 0,
+            1 | 2 => all,
+            3 | 4 => {
+                let size = (self.s.d() + self.r.below(3)).saturating_sub(1).min(n);
+                let mut set = 0u32;
+                while (set.count_ones() as usize) < size {
+                    set |= 1 << self.r.below(n);
+                }
+                set
+            }
+            _ => self.r.next() as u32 & all,
+        }
+    }
+
+    /// The parts of an honest dealing: secrets, random entries, every g, every h.
+    fn dealing(&mut self) -> (Vec<u16>, Vec<u16>, Vec<u16>, Vec<u16>) {
+        let (s, l, d) = (self.s, self.s.l as usize, self.s.d());
+        let (secrets, random) = (self.r.elements(s.p, l * l), self.r.elements(s.p, d * d - l * l));
+        let (mut gs, mut hs) = (vec![0; s.entries()], vec![0; s.entries()]);
+        deal_all(s, &self.m, &secrets, &random, &mut gs, &mut hs);
+        (secrets, random, gs, hs)
+    }
+
+    /// The values that holder i receives in an honest dealing.
+    fn values(&self, gs: &[u16], i: usize) -> Vec<u16> {
+        let d = self.s.d();
+        (0..self.s.n as usize).map(|j| pair_value(self.s, &self.m, &gs[j * d..(j + 1) * d], i as u16).values[0]).collect()
+    }
+
+    /// The shares that a vector gives a set.
+    fn shares(&self, v: &[u16], set: u32) -> Vec<u16> {
+        (0..self.s.n).filter(|i| set >> i & 1 == 1).map(|i| pair_value(self.s, &self.m, v, i).values[0]).collect()
+    }
+
+    fn spoil(&mut self, xs: &mut [u16]) {
+        if !xs.is_empty() {
+            let k = self.r.below(xs.len());
+            xs[k] = self.r.below(self.s.p as usize) as u16;
+        }
+    }
+
+    /// A record that its writer takes, as words.
+    pub fn record(&mut self, mark: u16) -> Vec<u16> {
+        let (s, r) = (self.s, &mut *self.r);
+        let number = 1 + r.below(65535) as u16;
+        let (i, j) = (r.below(s.n as usize) as u16, r.below(s.n as usize) as u16);
+        let value = r.below(s.p as usize) as u16;
+        match mark {
+            SU => [&[SU, s.p, s.l, s.e, s.n], &self.m[..]].concat(),
+            DL => [vec![DL, number, i], r.elements(s.p, 2 * s.d())].concat(),
+            PV => vec![PV, number, i, j, value],
+            VD => vec![VD, number, i, r.below(2) as u16],
+            _ if r.chance(3) => vec![SH, 0, i, 0, value],
+            _ => vec![SH, number, i, r.below(s.l as usize) as u16, value],
+        }
+    }
+
+    /// A call in order.
+    pub fn case(&mut self, call: u16) -> Case {
+        let (s, d, l, n) = (self.s, self.s.d(), self.s.l as usize, self.s.n as usize);
+        let mut c = Case { call, numbers: [s.p, s.l, s.e, s.n, 0, 0, 0, 0], words: vec![], bytes: vec![] };
+        let m = self.m.clone();
+        match call {
+            0 => c.words = vec![self.r.noise(s.entries())],
+            1 => {
+                let (secrets, random, ..) = self.dealing();
+                c.numbers[4] = self.r.below(n) as u16;
+                c.words = vec![m, secrets, random, self.r.noise(d), self.r.noise(d)];
+            }
+            2 => {
+                let (secrets, random, ..) = self.dealing();
+                c.words = vec![m, secrets, random, self.r.noise(s.entries()), self.r.noise(s.entries())];
+            }
+            3 => {
+                c.numbers[4] = self.r.below(n) as u16;
+                c.words = vec![m, self.r.elements(s.p, d)];
+            }
+            4 => {
+                let (_, _, gs, hs) = self.dealing();
+                let i = self.r.below(n);
+                let mut values = self.values(&gs, i);
+                while self.r.chance(2) {
+                    self.spoil(&mut values);
+                }
+                c.words = vec![m, hs[i * d..(i + 1) * d].to_vec(), values];
+            }
+            5 => {
+                let mut verdicts = vec![1; n];
+                while self.r.chance(2) {
+                    verdicts[self.r.below(n)] = 0;
+                }
+                c.words = vec![self.r.elements(s.p, d), verdicts, self.r.noise(l)];
+            }
+            6 => {
+                let (_, _, mut gs, mut hs) = self.dealing();
+                while self.r.chance(2) {
+                    if self.r.chance(2) { self.spoil(&mut gs) } else { self.spoil(&mut hs) }
+                }
+                c.words = vec![m, gs, hs];
+            }
+            7 => {
+                let k = [1, 2, 63, 64, 1 + self.r.below(20)][self.r.below(5)];
+                c.words = vec![self.r.elements(s.p, k), self.r.elements(s.p, k)];
+            }
+            8..=11 => {
+                let set = self.set();
+                c.choose(set);
+                c.words = vec![m];
+                if call == 8 {
+                    c.numbers[6] = self.r.below(l) as u16;
+                    c.words.push(self.r.noise(32));
+                }
+                if call == 11 {
+                    let v = self.r.elements(s.p, d);
+                    let mut shares = self.shares(&v, set);
+                    while self.r.chance(3) {
+                        self.spoil(&mut shares);
+                    }
+                    c.words.extend([shares, self.r.noise(l)]);
+                }
+            }
+            FILE => c.bytes = self.file(),
+            13..=17 => {
+                let record = self.record([SU, DL, PV, VD, SH][call as usize - 13]);
+                c = writing(s, &record, self.r);
+            }
+            18..=23 => {
+                let record = self.record([SU, SU, DL, PV, VD, SH][call as usize - 18]);
+                c = reading(s, call, &record, self.r);
+                if self.r.chance(4) {
+                    let more = 1 + self.r.below(12);
+                    c.bytes.extend(self.r.noise_bytes(more));
+                }
+            }
+            _ => {}
+        }
+        c
+    }
+
+    /// A holder's file as the rules have it, now and then with a changed value or verdict, its PV and VD in any order.
+    fn file(&mut self) -> Vec<u8> {
+        let (s, d, n) = (self.s, self.s.d(), self.s.n as usize);
+        let (_, _, gs, hs) = self.dealing();
+        let i = self.r.below(n);
+        let mut values = self.values(&gs, i);
+        if self.r.chance(3) {
+            self.spoil(&mut values);
+        }
+        let h = &hs[i * d..(i + 1) * d];
+        let mut verdicts = vec![1; n];
+        if self.r.chance(3) {
+            verdicts[self.r.below(n)] = 0;
+        }
+        if !self.r.chance(5) {
+            verdicts[i] = judge(s, &self.m, h, &values).values[0];
+        }
+        let number = 1 + self.r.below(65535) as u16;
+        let mut rest: Vec<Vec<u16>> = (0..n as u16).map(|j| vec![PV, number, j, i as u16, values[j as usize]]).collect();
+        rest.extend((0..n as u16).map(|j| vec![VD, number, j, verdicts[j as usize]]));
+        for k in (1..rest.len()).rev() {
+            rest.swap(k, self.r.below(k + 1));
+        }
+        let mut words = vec![SU, s.p, s.l, s.e, s.n];
+        words.extend(&self.m);
+        words.extend([DL, number, i as u16]);
+        words.extend(&gs[i * d..(i + 1) * d]);
+        words.extend(h);
+        words.extend(rest.iter().flatten());
+        bytes(&words)
+    }
+}
+
+/// The call that writes this record.
+pub fn writing(s: Params, record: &[u16], r: &mut Random) -> Case {
+    let (call, x, words) = match record[0] {
+        SU => (13, &record[..0], vec![record[5..].to_vec()]),
+        DL => {
+            let (g, h) = record[3..].split_at((record.len() - 3) / 2);
+            (14, &record[1..3], vec![g.to_vec(), h.to_vec()])
+        }
+        PV => (15, &record[1..], vec![]),
+        VD => (16, &record[1..], vec![]),
+        _ => (17, &record[1..], vec![]),
+    };
+    let mut numbers = [s.p, s.l, s.e, s.n, 0, 0, 0, 0];
+    numbers[4..4 + x.len()].copy_from_slice(x);
+    Case { call, numbers, words, bytes: r.noise_bytes(2 * record.len()) }
+}
+
+/// A call that reads this record.
+pub fn reading(s: Params, call: u16, record: &[u16], r: &mut Random) -> Case {
+    let words = match call {
+        19 => vec![r.noise(s.entries())],
+        20 => vec![r.noise(s.d()), r.noise(s.d())],
+        _ => vec![],
+    };
+    Case { call, numbers: [s.p, s.l, s.e, s.n, 0, 0, 0, 0], words, bytes: bytes(record) }
+}
+
+/// Sets word k of some bytes, if it is there.
+pub fn put(bytes: &mut [u8], k: usize, word: u16) {
+    if let Some(at) = bytes.get_mut(2 * k..2 * k + 2) {
+        at.copy_from_slice(&word.to_le_bytes());
+    }
+}
+
+fn damage_file(r: &mut Random, bytes: &mut Vec<u8>) {
+    match r.below(4) {
+        0 => bytes.truncate(r.below(bytes.len() + 1)),
+        1 => {
+            let k = r.below(bytes.len().max(1));
+            if k < bytes.len() {
+                bytes[k] = r.below(256) as u8;
+            }
+        }
+        2 => {
+            let k = r.below(bytes.len() / 2 + 1) * 2;
+            if k < bytes.len() {
+                bytes[k] = [0, 1, 2, 3, 7, 8, 9, 32, 33, 255][r.below(10)];
+            }
+        }
+        _ => {
+            let (a, k) = (r.below(bytes.len() / 2 + 1) * 2, 2 * r.below(6));
+            let b = (a + k).min(bytes.len());
+            let part = bytes[a.min(b)..b].to_vec();
+            bytes.extend(part);
+        }
+    }
+    bytes.truncate(4096);
+}
+
+/// Makes a slice longer or shorter by one.
+fn resize<T: Default>(r: &mut Random, x: &mut Vec<T>) {
+    if r.chance(2) {
+        x.push(T::default());
+    } else {
+        x.pop();
+    }
+}
+
+/// Breaks a case: a length, an element, a number, a set, a record or a file.
+fn damage(r: &mut Random, c: &mut Case) {
+    if c.call == FILE {
+        return damage_file(r, &mut c.bytes);
+    }
+    let [p, l, _, n, ..] = c.numbers;
+    let limits = [0, 1, 2, l, l.wrapping_sub(1), n, n.wrapping_sub(1), p, p.wrapping_sub(1), 9, 33, 65535];
+    match r.below(8) {
+        0 => c.numbers[0] = r.one(&[0, 1, 3, 7, 257, 65520, 65535]),
+        1 => c.numbers[1 + r.below(3)] = r.one(&[0, 1, 8, 9, 32, 33, 65535]),
+        2 => match r.below(c.words.len() + 1) {
+            k if k < c.words.len() => resize(r, &mut c.words[k]),
+            _ if c.of().bytes != Bytes::None => resize(r, &mut c.bytes),
+            _ => {}
+        },
+        3 if !c.words.is_empty() => {
+            let k = r.below(c.words.len());
+            let at = r.below(c.words[k].len().max(1));
+            if let Some(x) = c.words[k].get_mut(at) {
+                *x = r.one(&[p, p.wrapping_add(1), 65535]);
+            }
+        }
+        3 | 4 if c.of().bytes == Bytes::Read => {
+            let (k, w) = (r.below(c.bytes.len() / 2 + 1), r.one(&limits));
+            put(&mut c.bytes, k, w);
+        }
+        4 => c.numbers[4 + r.below(4)] = r.one(&limits),
+        5 if c.of().bytes == Bytes::Read => {
+            let w = r.one(&[SU, DL, PV, VD, SH, 0]);
+            put(&mut c.bytes, 0, w);
+        }
+        6 if c.of().bytes == Bytes::Read => c.bytes.truncate(r.below(c.bytes.len() + 1)),
+        7 if c.of().bytes == Bytes::Read => {
+            let k = r.below(c.bytes.len().max(1));
+            if let Some(b) = c.bytes.get_mut(k) {
+                *b = r.below(256) as u8;
+            }
+        }
+        _ => match c.call {
+            5 if !c.words[1].is_empty() => {
+                let k = r.below(c.words[1].len());
+                c.words[1][k] = 2;
+            }
+            7 => {
+                c.words = vec![vec![0; r.one(&[0, 65])]; 2];
+                if r.chance(3) {
+                    c.words[r.below(2)].push(1);
+                }
+            }
+            8..=11 => {
+                let k = r.below(32);
+                c.numbers[4 + k / 16] ^= 1 << (k % 16);
+            }
+            24 => c.numbers[0] = r.next() as u16,
+            _ => {}
+        },
+    }
+}
+
+/// Leaves most cases in order and damages some, once or twice.
+pub fn damaged(r: &mut Random, mut c: Case) -> Case {
+    if r.chance(3) {
+        damage(r, &mut c);
+        if r.chance(3) {
+            damage(r, &mut c);
+        }
+    }
+    c
+}
+
+/// A case of a call.
+pub fn draw(r: &mut Random, call: u16) -> Case {
+    let on_a_set = (8..=11).contains(&call);
+    let c = match r.below(8) {
+        0 => Draw::any(r).case(call),
+        1..=4 if on_a_set => Draw::wide(r).case(call),
+        _ => Draw::new(r).case(call),
+    };
+    damaged(r, c)
+}

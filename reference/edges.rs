@@ -1,0 +1,550 @@
+//! The cases at the limits: every refusal of every call, each limit and one past it, each lent length and one beside it, records cut at every byte.
+
+use crate::cases::*;
+use crate::draw::*;
+use crate::files::{example, zeros};
+use reference::*;
+
+const READERS: [(u16, u16); 6] = [(18, SU), (19, SU), (20, DL), (21, PV), (22, VD), (23, SH)];
+
+fn params(p: u16, l: u16, e: u16, n: u16) -> Params {
+    Params { p, l, e, n }
+}
+
+/// Each number once.
+fn distinct<T: Ord>(mut xs: Vec<T>) -> Vec<T> {
+    xs.sort();
+    xs.dedup();
+    xs
+}
+
+/// A call in order, on a points matrix if there is one.
+fn sound(r: &mut Random, call: u16, s: Params) -> Case {
+    Draw::with(r, s, POINTS).case(call)
+}
+
+/// The calls that take a setup, from the caller or from an SU.
+fn on_a_setup() -> impl Iterator<Item = u16> {
+    (0..24).filter(|&call| call != 7 && call != FILE)
+}
+
+/// The lengths of the slices of words and of the slice of bytes that a call needs.
+fn needed(call: u16, s: Params) -> (Vec<usize>, usize) {
+    let (l, d, n, all) = (s.l as usize, s.d(), s.n as usize, s.entries());
+    match call {
+        0 | 9 | 10 => (vec![all], 0),
+        1 => (vec![all, l * l, d * d - l * l, d, d], 0),
+        2 => (vec![all, l * l, d * d - l * l, all, all], 0),
+        3 => (vec![all, d], 0),
+        4 => (vec![all, d, n], 0),
+        5 => (vec![d, n, l], 0),
+        6 => (vec![all, all, all], 0),
+        8 => (vec![all, 32], 0),
+        11 => (vec![all, 0, l], 0),
+        13 | 19 => (vec![all], 10 + 2 * all),
+        14 | 20 => (vec![d, d], 6 + 4 * d),
+        16 | 22 => (vec![], 8),
+        18 => (vec![], 10 + 2 * all),
+        24 => (vec![], 0),
+        _ => (vec![], 10),
+    }
+}
+
+/// A call on numbers that may be beyond their limits, with zeros everywhere and the lengths that they ask for, as far as a case can hold them.
+fn blank(call: u16, s: Params) -> Case {
+    let (words, size) = needed(call, s);
+    let words: Vec<Vec<u16>> = words.iter().map(|&k| vec![0; k.min(528)]).collect();
+    let mut c = Case { call, numbers: [s.p, s.l, s.e, s.n, 0, 0, 0, 0], words, bytes: vec![0; size.min(4096)] };
+    if let Some((_, mark)) = READERS.iter().find(|x| x.0 == call) {
+        put(&mut c.bytes, 0, *mark);
+    }
+    if call == 18 || call == 19 {
+        (0..4).for_each(|k| put(&mut c.bytes, 1 + k, c.numbers[k]));
+    }
+    c
+}
+
+/// Every call in order over every field, small and largest; then p, ℓ, e and n beyond their limits.
+fn sizes(r: &mut Random, cases: &mut Vec<Case>) {
+    for call in on_a_setup() {
+        for p in PRIMES {
+            for (l, e, n) in [(1, 1, 1), (8, 1, 2), (1, 8, 3)] {
+                cases.push(sound(r, call, params(p, l, e, n)));
+            }
+        }
+        for (k, (l, e)) in [(2, 1), (8, 8), (8, 8)].into_iter().enumerate() {
+            cases.push(sound(r, call, params(PRIMES[(call as usize + k) % 5], l, e, 32)));
+        }
+        for p in [0, 1, 3, 256, 65520, 65535] {
+            cases.push(blank(call, params(p, 1, 1, 1)));
+        }
+        for (l, e, n) in [(0, 1, 1), (9, 1, 1), (1, 0, 1), (1, 9, 1), (1, 1, 0), (1, 1, 33), (0, 0, 0), (65535, 1, 1), (1, 65535, 1)] {
+            cases.push(blank(call, params(7, l, e, n)));
+        }
+        cases.push(blank(call, params(65521, 8, 8, 33)));
+        cases.push(blank(call, params(257, 1, 1, 65535)));
+    }
+    let near = (0..24).chain(247..262).chain(65516..=65535).chain([127, 128, 509, 514, 1792, 32768, 64257]);
+    cases.extend(near.map(|p| blank(24, params(p, 0, 0, 0))));
+}
+
+/// Every slice of every call shorter and longer by one, and empty.
+fn lengths(r: &mut Random, cases: &mut Vec<Case>) {
+    for call in (0..24).filter(|&call| call != FILE) {
+        for s in [params(7, 1, 1, 3), params(257, 3, 2, 4)] {
+            let c = sound(r, call, s);
+            for k in 0..c.words.len() {
+                let mut near = [c.clone(), c.clone(), c.clone()];
+                near[0].words[k].pop();
+                near[1].words[k].push(0);
+                near[2].words[k].clear();
+                cases.extend(near);
+            }
+            if c.of().bytes != Bytes::None {
+                let mut near = [c.clone(), c.clone(), c.clone()];
+                near[0].bytes.pop();
+                near[1].bytes.push(0);
+                near[2].bytes.clear();
+                cases.extend(near);
+            }
+        }
+    }
+}
+
+/// Every slice of field elements with p − 1 throughout, and with p or more at its ends.
+fn elements(r: &mut Random, cases: &mut Vec<Case>) {
+    for call in 0..24 {
+        for p in PRIMES {
+            let c = sound(r, call, params(p, 1, 1, 2));
+            for &k in c.of().elements {
+                if c.words[k].is_empty() {
+                    continue;
+                }
+                let mut near = [c.clone(), c.clone(), c.clone(), c.clone()];
+                near[0].words[k].fill(p - 1);
+                near[1].words[k][0] = p;
+                *near[2].words[k].last_mut().unwrap() = p;
+                *near[3].words[k].last_mut().unwrap() = 65535;
+                cases.extend(near);
+            }
+        }
+    }
+}
+
+/// Holders and positions at their limits and past them.
+fn places(r: &mut Random, cases: &mut Vec<Case>) {
+    for s in [params(7, 1, 1, 3), params(251, 2, 3, 32), params(65521, 8, 1, 1)] {
+        for (call, at, limit) in [(1, 4, s.n), (3, 4, s.n), (8, 6, s.l)] {
+            for x in [0, limit - 1, limit, limit + 1, 65535] {
+                let mut c = sound(r, call, s);
+                c.numbers[at] = x;
+                cases.push(c);
+            }
+        }
+    }
+}
+
+/// The calls on a set, at a position, with shares that some vector gives; where they open, the opening once more with the last one changed.
+fn on_set(r: &mut Random, m: &[u16], s: Params, set: u32, position: u16) -> Vec<Case> {
+    let v = r.elements(s.p, s.d());
+    let members = (0..32).filter(|i| set >> i & 1 == 1);
+    let shares: Vec<u16> = members.map(|i| pair_value(s, m, &v, i).values.first().copied().unwrap_or(0)).collect();
+    let mut cases: Vec<Case> = (8..12)
+        .map(|call| {
+            let mut c = Case { call, numbers: [s.p, s.l, s.e, s.n, 0, 0, position, 0], words: vec![m.to_vec()], bytes: vec![] };
+            c.choose(set);
+            match call {
+                8 => c.words.push(r.noise(32)),
+                11 => c.words.extend([shares.clone(), r.noise(s.l as usize)]),
+                _ => {}
+            }
+            c
+        })
+        .collect();
+    if cases[3].run().number == 0 {
+        let mut spoilt = cases[3].clone();
+        let last = spoilt.words[1].last_mut().unwrap();
+        *last = (*last + 1) % s.p;
+        cases.push(spoilt);
+    }
+    cases
+}
+
+fn matrix(r: &mut Random, s: Params, kind: usize) -> Vec<u16> {
+    Draw::with(r, s, kind).record(SU).split_off(5)
+}
+
+/// Sets from empty to all, on matrices of every kind.
+fn sets(r: &mut Random, cases: &mut Vec<Case>) {
+    // every set of three holders and some past them
+    let example = [6, 2, 5, 3, 4, 4];
+    for set in (0..8).chain([8, 9, 1 << 31, u32::MAX]) {
+        cases.extend(on_set(r, &example, params(7, 1, 1, 3), set, 0));
+    }
+    for (k, p) in PRIMES.into_iter().enumerate() {
+        let s = params(p, 2, 1, 3);
+        let m = matrix(r, s, [SPARSE, REPEATED, DEPENDENT, ARBITRARY, POINTS][k]);
+        for set in 0..8 {
+            cases.extend(on_set(r, &m, s, set, set as u16 % 2));
+        }
+    }
+    // sets that determine both positions, one or none, whatever their size
+    for (p, x) in [(7, 3), (65521, 65520)] {
+        for set in 0..16 {
+            cases.extend(on_set(r, &[x, 0, 0, 0, 1, 0, 0, 0, x, x, 1, 0], params(p, 2, 1, 4), set, (set / 2 % 2) as u16));
+        }
+    }
+    // every kind of matrix
+    for kind in [ZERO, REPEATED, DEPENDENT, POINTS, ARBITRARY, SPARSE] {
+        for (k, p) in PRIMES.into_iter().enumerate() {
+            let s = params(p, 2, 1 + r.below(2) as u16, 5);
+            let m = matrix(r, s, kind);
+            let set = if k % 2 == 0 { 31 } else { r.below(32) as u32 };
+            cases.extend(on_set(r, &m, s, set, k as u16 % 2));
+        }
+    }
+    // document 01's row (1, 1, 0)
+    for position in 0..3 {
+        cases.extend(on_set(r, &[1, 1, 0], params(7, 2, 1, 1), 1, position));
+    }
+    // a set bit at n and at 31, for n up to 32
+    for n in [1, 16, 31, 32] {
+        let s = params(257, 1, 1, n);
+        let m = matrix(r, s, POINTS);
+        let all = if n == 32 { u32::MAX } else { (1 << n) - 1 };
+        for set in distinct(vec![0, all, 1 << (n - 1), 1 << n.min(31), 1 << 31, u32::MAX]) {
+            cases.extend(on_set(r, &m, s, set, 0));
+        }
+    }
+    // the largest sizes: all 32, half, one fewer, one more
+    for p in [2, 257, 65521] {
+        let s = params(p, 8, 8, 32);
+        let m = matrix(r, s, POINTS);
+        for set in [0, u32::MAX, 0xFFFF, 0x7FFF, 0xAAAAAAAA, 0xAAAAAAAB] {
+            cases.extend(on_set(r, &m, s, set, 7).into_iter().filter(|c| c.call != 10));
+        }
+    }
+}
+
+/// The points matrix at and past d + n = p, and over every field.
+fn points_matrices(r: &mut Random, cases: &mut Vec<Case>) {
+    for (l, e) in [(1, 1), (1, 2), (2, 1), (2, 2), (3, 2), (2, 4), (5, 1)] {
+        for n in [7 - l - e, 8 - l - e] {
+            if n > 0 {
+                cases.push(sound(r, 0, params(7, l, e, n)));
+            }
+        }
+    }
+    for p in PRIMES {
+        for (l, e, n) in [(1, 1, 3), (3, 3, 5), (8, 8, 31)] {
+            cases.push(sound(r, 0, params(p, l, e, n)));
+        }
+    }
+}
+
+/// Combinations of 0, 1, 64 and 65 terms, lists of one length and of two.
+fn combinations(r: &mut Random, cases: &mut Vec<Case>) {
+    for p in PRIMES.into_iter().chain([0, 3, 65522]) {
+        for (a, b) in [(0, 0), (0, 1), (1, 0), (1, 1), (1, 2), (63, 64), (64, 64), (64, 65), (65, 64), (65, 65), (0, 65)] {
+            let mut c = sound(r, 7, params(257, 1, 1, 1));
+            c.numbers[0] = p;
+            c.words = if PRIMES.contains(&p) && r.chance(2) {
+                vec![r.elements(p, a), r.elements(p, b)]
+            } else {
+                vec![vec![p.wrapping_sub(1); a], vec![p.wrapping_sub(1); b]]
+            };
+            cases.push(c);
+        }
+    }
+}
+
+/// One value, verdict or entry of a part changed, each in turn.
+fn disagreements(r: &mut Random, cases: &mut Vec<Case>) {
+    for p in PRIMES {
+        let s = params(p, 1, 1, 3);
+        let m = matrix(r, s, POINTS);
+        let (secrets, random) = (r.elements(p, 1), r.elements(p, 3));
+        let (mut gs, mut hs) = (vec![0; 6], vec![0; 6]);
+        deal_all(s, &m, &secrets, &random, &mut gs, &mut hs);
+        let case = |call, words| Case { call, numbers: [p, 1, 1, 3, 0, 0, 0, 0], words, bytes: vec![] };
+        let next = |xs: &[u16], k: usize| {
+            let mut xs = xs.to_vec();
+            xs[k] = (xs[k] + 1) % p;
+            xs
+        };
+        cases.push(case(6, vec![m.clone(), gs.clone(), hs.clone()]));
+        for k in 0..6 {
+            cases.push(case(6, vec![m.clone(), next(&gs, k), hs.clone()]));
+            cases.push(case(6, vec![m.clone(), gs.clone(), next(&hs, k)]));
+        }
+        let values: Vec<u16> = (0..3).map(|j| pair_value(s, &m, &gs[2 * j..2 * j + 2], 1).values[0]).collect();
+        let h = hs[2..4].to_vec();
+        cases.push(case(4, vec![m.clone(), h.clone(), values.clone()]));
+        for j in 0..3 {
+            cases.push(case(4, vec![m.clone(), h.clone(), next(&values, j)]));
+            cases.push(case(4, vec![m.clone(), h.clone(), next(&next(&values, j), 2)]));
+        }
+        for verdicts in [[1, 1, 1], [0, 1, 1], [1, 0, 1], [1, 1, 0], [1, 0, 0], [0, 0, 0], [1, 2, 0], [2, 1, 1], [0, 1, 65535]] {
+            cases.push(case(5, vec![gs[2..4].to_vec(), verdicts.to_vec(), r.noise(1)]));
+        }
+    }
+}
+
+/// A record written, and read by its readers.
+fn both(r: &mut Random, s: Params, record: &[u16], cases: &mut Vec<Case>) {
+    cases.push(writing(s, record, r));
+    for (call, _) in READERS.iter().filter(|x| x.1 == record[0]) {
+        cases.push(reading(s, *call, record, r));
+    }
+}
+
+/// A setup's numbers as an SU has them.
+fn numbers_of(record: &[u16]) -> Params {
+    params(record[1], record[2], record[3], record[4])
+}
+
+/// Every field of every record at its limits and past them, written and read; records cut at every byte, with bytes behind, with other marks.
+fn records(r: &mut Random, cases: &mut Vec<Case>) {
+    for s in [params(257, 2, 1, 3), params(7, 1, 1, 1)] {
+        let limits = distinct(vec![0, 1, 2, s.l - 1, s.l, s.n - 1, s.n, s.p - 1, s.p, 65535]);
+        for mark in [DL, PV, VD, SH] {
+            let record = Draw::with(r, s, POINTS).record(mark);
+            for k in 1..record.len() {
+                let wanted: &[u16] = if mark == DL && k > 2 { &[0, s.p - 1, s.p] } else { &limits };
+                for &w in wanted {
+                    let mut changed = record.clone();
+                    changed[k] = w;
+                    both(r, s, &changed, cases);
+                }
+            }
+        }
+        // a combination's SH
+        for column in [0, 1, s.l, 65535] {
+            both(r, s, &[SH, 0, s.n - 1, column, s.p - 1], cases);
+            both(r, s, &[SH, 1, s.n - 1, column, s.p - 1], cases);
+        }
+        let setup = Draw::with(r, s, POINTS).record(SU);
+        for k in 1..setup.len() {
+            for w in if k < 5 { vec![0, 1, 2, 3, 7, 8, 9, 32, 33, 251, 257, 65521, 65535] } else { vec![s.p - 1, s.p] } {
+                let mut changed = setup.clone();
+                changed[k] = w;
+                let mut near = vec![];
+                both(r, s, &changed, &mut near);
+                let x = numbers_of(&changed);
+                near[0].numbers[..4].copy_from_slice(&[x.p, x.l, x.e, x.n]);
+                cases.extend(near);
+            }
+        }
+        for (call, mark) in READERS {
+            let record = Draw::with(r, s, POINTS).record(mark);
+            let whole = reading(s, call, &record, r);
+            for k in 0..whole.bytes.len() {
+                cases.push(Case { bytes: whole.bytes[..k].to_vec(), ..whole.clone() });
+            }
+            for k in 1..4 {
+                cases.push(Case { bytes: [&whole.bytes[..], &whole.bytes[..k]].concat(), ..whole.clone() });
+            }
+            for other in [SU, DL, PV, VD, SH, 0, 65535, mark ^ 1, mark ^ 0x100, mark.swap_bytes()] {
+                for size in [2, whole.bytes.len()] {
+                    let mut c = whole.clone();
+                    put(&mut c.bytes, 0, other);
+                    c.bytes.truncate(size);
+                    cases.push(c);
+                }
+            }
+        }
+    }
+    // the last holder and column of the largest sizes, and one past them
+    let s = params(251, 8, 8, 32);
+    for i in [31, 32] {
+        for mut record in [Draw::with(r, s, POINTS).record(DL), vec![PV, 1, i, 0, 5], vec![PV, 1, 0, i, 5], vec![VD, 1, i, 1], vec![SH, 1, i, i - 24, 5]] {
+            if record[0] == DL {
+                record[2] = i;
+            }
+            both(r, s, &record, cases);
+        }
+    }
+    both(r, s, &[SH, 1, 31, 8, 5], cases);
+    // elements over every field, first and last
+    for p in PRIMES {
+        let s = params(p, 1, 1, 2);
+        for mark in [SU, DL, PV, SH] {
+            let record = Draw::with(r, s, POINTS).record(mark);
+            let first = match mark {
+                SU => 5,
+                DL => 3,
+                _ => 4,
+            };
+            for k in [first, record.len() - 1] {
+                for w in [p - 1, p, 65535] {
+                    let mut changed = record.clone();
+                    changed[k] = w;
+                    both(r, s, &changed, cases);
+                }
+            }
+        }
+    }
+    // the largest SU, cut
+    let s = params(65521, 8, 8, 32);
+    let setup = Draw::with(r, s, POINTS).record(SU);
+    for size in [1033, 1032, 12, 11, 10, 9] {
+        let mut c = reading(s, 18, &setup, r);
+        c.bytes.truncate(size);
+        cases.push(c);
+    }
+}
+
+/// Makes a refusal apply to a sound case.
+fn fault(c: &mut Case, number: u16) {
+    let s = c.params();
+    match (c.call, number) {
+        (18 | 19, 1) => put(&mut c.bytes, 1, 3),
+        (_, 1) => c.numbers[0] = 3,
+        (18 | 19, 2) => put(&mut c.bytes, 3, 9),
+        (_, 2) => c.numbers[2] = 9,
+        (18..=23, 3) => c.bytes.truncate(c.bytes.len() - 1),
+        (13..=17, 3) => c.bytes.push(0),
+        (_, 3) => c.words.last_mut().unwrap().push(0),
+        (15 | 17, 4) => c.numbers[7] = s.p,
+        (19, 4) => put(&mut c.bytes, 5, s.p),
+        (20, 4) => put(&mut c.bytes, 3, s.p),
+        (21 | 23, 4) => put(&mut c.bytes, 4, s.p),
+        (7, 4) => c.words.iter_mut().take(1).for_each(|x| x.push(65535)),
+        (_, 4) => c.words[0][0] = 65535,
+        (1 | 3, 5) => c.numbers[4] = s.n,
+        (8, 5) => c.numbers[6] = s.l,
+        (9..=11, 5) => {
+            c.numbers[5] |= 0x8000;
+            if c.call == 11 {
+                c.words[1].push(0);
+            }
+        }
+        (14 | 16, 5) => c.numbers[5] = s.n,
+        (15, 5) => c.numbers[6] = s.n,
+        (17, 5) => c.numbers[6] = s.l,
+        (20 | 22, 5) => put(&mut c.bytes, 2, s.n),
+        (21, 5) => put(&mut c.bytes, 3, s.n),
+        (23, 5) => put(&mut c.bytes, 3, s.l),
+        (11, 6) => {
+            c.choose(1);
+            c.words[1] = vec![0];
+        }
+        (11, 7) => c.words[1] = vec![0, 0, 1],
+        (_, 8) => c.bytes[0] ^= 1,
+        (14..=17, 9) => c.numbers[4] = 0,
+        (_, 9) => put(&mut c.bytes, 1, 0),
+        (5, 12) => c.words[1][0] = 2,
+        (16, 12) => c.numbers[6] = 2,
+        (22, 12) => put(&mut c.bytes, 3, 2),
+        (7, 14) => c.words = vec![vec![], vec![]],
+        (0, 15) => c.numbers[0] = 2,
+        _ => panic!("no such refusal: {} {number}", c.call),
+    }
+}
+
+/// Every two refusals of a call together, and all of them.
+fn priorities(r: &mut Random, cases: &mut Vec<Case>) {
+    for call in (0..24).filter(|&call| call != FILE) {
+        let mut c = sound(r, call, params(7, 1, 1, 3));
+        if call == 11 {
+            c.choose(7);
+            c.words[1] = vec![0, 2, 4];
+        }
+        let all = CALLS[call as usize].refusals;
+        for a in 0..all.len() {
+            for b in a..all.len() {
+                let mut faulty = c.clone();
+                fault(&mut faulty, all[b]);
+                fault(&mut faulty, all[a]);
+                cases.push(faulty);
+            }
+        }
+        for from in 0..all.len() {
+            let mut faulty = c.clone();
+            all[from..].iter().rev().for_each(|&number| fault(&mut faulty, number));
+            cases.push(faulty);
+        }
+    }
+}
+
+/// Document 01's cases on its example.
+fn worked(r: &mut Random, cases: &mut Vec<Case>) {
+    let m = vec![6, 2, 5, 3, 4, 4];
+    let numbers = |x: [u16; 3]| [7, 1, 1, 3, x[0], x[1], x[2], 0];
+    let mut push = |call, x, words| cases.push(Case { call, numbers: numbers(x), words, bytes: vec![] });
+    push(0, [0; 3], vec![r.noise(6)]);
+    for i in 0..3 {
+        push(1, [i, 0, 0], vec![m.clone(), vec![3], vec![1, 5, 2], r.noise(2), r.noise(2)]);
+    }
+    push(2, [0; 3], vec![m.clone(), vec![3], vec![1, 5, 2], r.noise(6), r.noise(6)]);
+    for g in [vec![0, 3], vec![2, 4], vec![4, 5]] {
+        push(3, [1, 0, 0], vec![m.clone(), g]);
+    }
+    push(4, [0; 3], vec![m.clone(), vec![4, 3], vec![2, 1, 0]]);
+    push(4, [0; 3], vec![m.clone(), vec![4, 3], vec![3, 1, 0]]);
+    push(5, [0; 3], vec![vec![2, 4], vec![1, 1, 1], r.noise(1)]);
+    for (set, shares) in [(5, vec![0, 4]), (7, vec![0, 2, 4]), (7, vec![0, 2, 5]), (1, vec![0]), (0, vec![]), (7, vec![0, 4, 1])] {
+        push(11, [set, 0, 0], vec![m.clone(), shares, r.noise(1)]);
+        push(8, [set, 0, 0], vec![m.clone(), r.noise(32)]);
+    }
+}
+
+/// Holder's files: sound over every field, shuffled, cut at every byte, each record gone, again or last; the largest, and one of 4,096 bytes.
+fn files(r: &mut Random, cases: &mut Vec<Case>) {
+    let mut push = |file: Vec<u8>| cases.push(Case { call: FILE, numbers: [0; 8], words: vec![], bytes: file });
+    let whole = example();
+    let all = bytes(&whole);
+    (0..=all.len()).for_each(|k| push(all[..k].to_vec()));
+    let spans = [(0, 11), (11, 18), (18, 23), (23, 28), (28, 33), (33, 37), (37, 41), (41, 45)];
+    for (from, to) in spans {
+        let without = [&whole[..from], &whole[to..]].concat();
+        push(bytes(&without));
+        push(bytes(&[&without[..], &whole[from..to]].concat()));
+        push(bytes(&[&whole[..], &whole[from..to]].concat()));
+    }
+    for _ in 0..20 {
+        let mut rest: Vec<&[u16]> = spans[2..].iter().map(|&(from, to)| &whole[from..to]).collect();
+        for k in (1..rest.len()).rev() {
+            rest.swap(k, r.below(k + 1));
+        }
+        push([bytes(&whole[..18]), bytes(&rest.concat())].concat());
+    }
+    // every word at some limit
+    for k in 0..whole.len() {
+        for w in [0, 2, 3, 7] {
+            let mut changed = whole.clone();
+            changed[k] = w;
+            push(bytes(&changed));
+        }
+    }
+    for p in PRIMES {
+        for (l, e, n) in [(1, 1, 1), (8, 1, 2), (1, 8, 3), (2, 2, 8)] {
+            push(sound(r, FILE, params(p, l, e, n)).bytes);
+        }
+    }
+    for (p, l, e, n) in [(3, 1, 1, 1), (7, 9, 1, 1), (7, 1, 9, 1), (7, 1, 1, 33), (65521, 8, 8, 32)] {
+        push(bytes(&zeros(p, l, e, n)));
+    }
+    let mut largest = bytes(&zeros(257, 8, 8, 32));
+    while largest.len() < 4096 {
+        largest.push(0);
+    }
+    push(largest);
+}
+
+pub fn edges(r: &mut Random) -> Vec<Case> {
+    let mut cases = vec![];
+    worked(r, &mut cases);
+    sizes(r, &mut cases);
+    lengths(r, &mut cases);
+    elements(r, &mut cases);
+    places(r, &mut cases);
+    sets(r, &mut cases);
+    points_matrices(r, &mut cases);
+    combinations(r, &mut cases);
+    disagreements(r, &mut cases);
+    records(r, &mut cases);
+    priorities(r, &mut cases);
+    files(r, &mut cases);
+    cases
+}
