@@ -103,6 +103,10 @@ module _ (p k t : ℕ) where
 
 -- A COLUMN CLEARED
 module _ (p W k c : ℕ) where
+  pub clear-start : (a : List ℕ) → a ≡ clearTo p W k c 0 a
+  unfolding clearTo
+  clear-start a = refl
+
   pub clear-step : (n : ℕ) (a : List ℕ) → clearTo p W k c (n + 1) a ≡ clearRow p W k c n (clearTo p W k c n a)
   unfolding clearTo
   clear-step n a = rw add-one refl
@@ -125,13 +129,13 @@ module _ (p W k c : ℕ) where
   length-clear zero a = refl
   length-clear (suc n) a = length-clearRow n (clearTo p W k c n a) ∙ length-clear n a
 
+  pub below-row : (r : ℕ) (a : List ℕ) → 0 < p → Below p a → Below p (clearRow p W k c r a)
+  below-row r a hp all = clear-row-by (Below p) r a all (below-sub p (entry W a r c) (r * W) (k * W) W a hp all)
+
   pub below-clear : (n : ℕ) (a : List ℕ) → 0 < p → Below p a → Below p (clearTo p W k c n a)
   unfolding clearTo
   below-clear zero a hp all = all
-  below-clear (suc n) a hp all =
-      let b = clearTo p W k c n a in
-      let h = below-clear n a hp all in
-      clear-row-by (Below p) n b h (below-sub p (entry W b n c) (n * W) (k * W) W b hp h)
+  below-clear (suc n) a hp all = below-row n (clearTo p W k c n a) hp (below-clear n a hp all)
 
   row-other : (r : ℕ) (a : List ℕ) (i j : ℕ) → i ≢ r → j < W → entry W (clearRow p W k c r a) i j ≡ entry W a i j
   row-other r a i j h l =
@@ -141,6 +145,10 @@ module _ (p W k c : ℕ) where
   row-pivot : (a : List ℕ) → clearRow p W k c k a ≡ a
   unfolding clearRow
   row-pivot a = rw (eq-eqb k k refl)
+
+  -- nothing is to be done for the pivot row
+  pub clear-past : (a : List ℕ) → clearTo p W k c k a ≡ clearTo p W k c (k + 1) a
+  clear-past a = sym (clear-step k a ∙ row-pivot (clearTo p W k c k a))
 
   row-same : (R r : ℕ) (a : List ℕ) (j : ℕ) → length a ≡ R * W → Below p a → r < R → r ≢ k → j < W
       → entry W (clearRow p W k c r a) r j ≡ subEntry p (entry W a r c) (entry W a r j) (entry W a k j)

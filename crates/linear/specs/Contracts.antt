@@ -2,7 +2,7 @@
 -- buffers: the two lent buffers, the matrix and the marks of its rows, as one
 -- Fits: the buffers hold R rows of W entries, at most 64, and R marks
 -- Ready: besides, p is a prime and every entry is below it
--- RowCleared, ColumnCleared, RowUsed, ColumnPassed, Reduction: what clear_row, clear_column, use_row, pass_column and reduce leave
+-- RowCleared, RowsCleared, ColumnCleared, RowUsed, ColumnPassed, Reduction: what clear_row, clear_rows, clear_column, use_row, pass_column and reduce leave
 use Prim.Native.Nat.{ℕ, _*_, _≤_}
 use mathlib.Core.Path.{_≡_}
 use mathlib.Core.List.{List}
@@ -26,6 +26,10 @@ pub record Ready (p R W : ℕ) (a u : List ℕ) : Type 0 where
 
 pub record RowCleared (p W k c r : ℕ) (a b : List ℕ) : Type 0 where
   pub matrix : b ≡ clearRow p W k c r a
+
+-- where the first i rows of x are cleared before, the first n are after
+pub record RowsCleared (p W k c i n : ℕ) (a b : List ℕ) : Type 0 where
+  pub matrix : (x : List ℕ) → a ≡ clearTo p W k c i x → b ≡ clearTo p W k c n x
 
 pub record ColumnCleared (p R W k c : ℕ) (a b : List ℕ) : Type 0 where
   pub matrix : b ≡ clearTo p W k c R a

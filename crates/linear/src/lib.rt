@@ -8,7 +8,7 @@ ghost use Rattle.base.specs.Matrix.{Below};
 ghost use Rattle.field.specs.Prime.{Inverses};
 ghost use Rattle.linear.specs.Dot.{at, dot, along};
 ghost use Rattle.linear.specs.Elimination.{pivotRow, alone, subEntry, subTo, scaleEntry, scaleTo, flatPivot, flatShown, flatUnsolved, flatFixes};
-ghost use Rattle.linear.specs.Contracts.{buffers, Fits, Ready, RowCleared, ColumnCleared, RowUsed, ColumnPassed, Reduction};
+ghost use Rattle.linear.specs.Contracts.{buffers, Fits, Ready, RowCleared, RowsCleared, ColumnCleared, RowUsed, ColumnPassed, Reduction};
 use field::Field;
 
 // The product of d entries of u from u_at on and d entries of v from v_at on, v_step apart: summed in u64 and reduced once.
@@ -91,17 +91,27 @@ fn clear_row(a: &mut [u16], width: usize, k: usize, col: usize, r: usize, p: u16
     sub_row(a, width, t, k * width, f, p);
 }
 
-// Clears a column by the pivot row k.
+// Clears a column in the rows from `top` on that are above `end`, by the pivot row k.
+fn clear_rows(a: &mut [u16], top: usize, end: usize, width: usize, k: usize, col: usize, p: u16)
+    requires { ⌜ (top ≤ end) × (end * width ≤ length (now a)) × (k * width + width ≤ length (now a)) × (col < width) × (0 < p) ⌝ }
+    requires { ⌜ Below p (now a) ⌝ }
+    ensures { λ _. ⌜ RowsCleared p width k col top end (now (a .entry)) (now (a .exit)) ⌝ }
+{
+    let mut r = top;
+    while r < end {
+        clear_row(a, width, k, col, r, p);
+        r += 1;
+    }
+}
+
+// Clears a column by the pivot row k. The rows above it and below it are two loops, so that neither meets the row that it reads.
 fn clear_column(a: &mut [u16], rows: usize, width: usize, k: usize, col: usize, p: u16)
     requires { ⌜ (length (now a) ≡ rows * width) × (k < rows) × (col < width) × (0 < p) ⌝ }
     requires { ⌜ Below p (now a) ⌝ }
     ensures { λ _. ⌜ ColumnCleared p rows width k col (now (a .entry)) (now (a .exit)) ⌝ }
 {
-    let mut r = 0;
-    while r < rows {
-        clear_row(a, width, k, col, r, p);
-        r += 1;
-    }
+    clear_rows(a, 0, k, width, k, col, p);
+    clear_rows(a, k + 1, rows, width, k, col, p);
 }
 
 // k x modulo p.
