@@ -17,7 +17,7 @@ ghost use Rattle.scheme.specs.Answers.{answerBy, paperWritten};
 ghost use Rattle.scheme.specs.Dealing.{dealtEntry};
 ghost use Rattle.scheme.specs.Calls.{pointsCall, pointsLeft, dealInputs, dealElements, dealRules, dealCall, dealLeftG, dealLeftH, dealAllRules, dealAllCall, dealAllLeftG, dealAllLeftH};
 ghost use Rattle.dealing.specs.Put.{put};
-ghost use Rattle.dealing.specs.Grid.{pointsRow, pointsRows, pointsSizes};
+ghost use Rattle.dealing.specs.Grid.{weightOf, weightsOf, pointsRow, pointsRows, pointsSizes};
 ghost use Rattle.dealing.specs.Parts.{entryG, entryH, sized, DealtRoom, PartRoom};
 use scheme::Params;
 use scheme::Written;
@@ -48,26 +48,47 @@ fn basis_at(p: u16, d: usize, j: usize, x: usize) -> u16
     acc
 }
 
-// Entry j of row i of the points matrix.
-fn point(p: u16, d: usize, i: usize, j: usize) -> u16
-    requires { ⌜ (d ≤ 16) × (i ≤ 32) × (j ≤ 16) ⌝ }
+// The inverse of the basis of node j at its own node: what every row multiplies its entry j by.
+fn weight(p: u16, d: usize, j: usize) -> u16
+    requires { ⌜ (d ≤ 16) × (j ≤ 16) ⌝ }
     requires { ⌜ Prime p ⌝ }
+    ensures { λ r. ⌜ r ≡ weightOf p d j ⌝ }
+{
+    field::inverse(p, basis_at(p, d, j, j))
+}
+
+// The weights of the d nodes, then zeros: worked out once for all rows.
+fn weights(p: u16, d: usize) -> [u16; 16]
+    requires { ⌜ d ≤ 16 ⌝ }
+    requires { ⌜ Prime p ⌝ }
+    ensures { λ r. ⌜ r ≡ weightsOf p d ⌝ }
+{
+    let mut entries = [0u16; 16];
+    let mut j = 0;
+    while j < d {
+        entries[j] = weight(p, d, j);
+        j += 1;
+    }
+    entries
+}
+
+// Entry j of row i of the points matrix, by the weight of node j.
+fn point(p: u16, d: usize, i: usize, j: usize, w: u16) -> u16
+    requires { ⌜ (1 < p) × (d ≤ 16) × (i ≤ 32) × (j < d) × (w ≡ weightOf p d j) ⌝ }
     ensures { λ r. ⌜ r ≡ point p d i j ⌝ }
 {
-    let inverse = field::inverse(p, basis_at(p, d, j, j));
-    field::product(p, inverse, basis_at(p, d, j, d + i))
+    field::product(p, w, basis_at(p, d, j, d + i))
 }
 
 // Row i of the points matrix: d entries, then zeros.
-fn row(p: u16, d: usize, i: usize) -> [u16; 16]
-    requires { ⌜ (d ≤ 16) × (i ≤ 32) ⌝ }
-    requires { ⌜ Prime p ⌝ }
+fn row(p: u16, d: usize, i: usize, by: &[u16; 16]) -> [u16; 16]
+    requires { ⌜ (1 < p) × (d ≤ 16) × (i ≤ 32) × (now by ≡ weightsOf p d) ⌝ }
     ensures { λ r. ⌜ r ≡ pointsRow p d i ⌝ }
 {
     let mut entries = [0u16; 16];
     let mut j = 0;
     while j < d {
-        entries[j] = point(p, d, i, j);
+        entries[j] = point(p, d, i, j, by[j]);
         j += 1;
     }
     entries
@@ -79,10 +100,11 @@ fn points_rows(p: u16, d: usize, n: usize) -> [[u16; 16]; 32]
     requires { ⌜ Prime p ⌝ }
     ensures { λ r. ⌜ r ≡ pointsRows p d n ⌝ }
 {
+    let by = weights(p, d);
     let mut rows = [[0u16; 16]; 32];
     let mut i = 0;
     while i < n {
-        rows[i] = row(p, d, i);
+        rows[i] = row(p, d, i, &by);
         i += 1;
     }
     rows
