@@ -142,13 +142,13 @@ impl Case {
         After { number: answer.number, places, words, bytes }
     }
 
-    /// One line: the number, the places, then every slice that may be written, a space after each number. Of a holder's file what it prints.
+    /// One line: the number, the places, then every slice that may be written, a space after each number. Of a holder's file what it prints, and an empty line.
     ///
     /// Which row or vector the judgement of a set writes is left open. Its buffer is stored all the same: the proved library and the reference both
     /// take the solution with zeros at the free unknowns, where the pivots are leftmost, and there is only one.
     pub fn line(&self) -> String {
         if self.call == FILE {
-            return holder(&self.bytes);
+            return holder(&self.bytes) + "\n";
         }
         let after = self.run();
         let mut all = vec![after.number];

@@ -2,7 +2,7 @@
 ghost use mathlib.Core.Path.{_≡_};
 ghost use mathlib.Core.Bool.{not};
 ghost use Prim.Native.Nat.{_-_, _*_, _%_, _<_, _≤_};
-ghost use Rattle.field.specs.Prime.{Prime, Inverse};
+ghost use Rattle.field.specs.Prime.{Prime, Inverse, Inverses};
 ghost use Rattle.field.specs.Fields.{isField, fieldAnswer, paper};
 
 // A field, by its number of elements.
@@ -349,13 +349,21 @@ const INVERSES: [u16; 257] = [
     256,
 ];
 
+// The table, for a caller who needs many inverses to lend.
+pub fn inverses() -> [u16; 257]
+    ensures { λ r. ⌜ Inverses r ⌝ }
+{
+    INVERSES
+}
+
 // The inverse modulo 257, from the table.
-fn inverse_257(a: u16) -> u16
+fn inverse_257(table: &[u16; 257], a: u16) -> u16
     requires { ⌜ a < 257 ⌝ }
+    requires { ⌜ Inverses (now table) ⌝ }
     ensures { λ r. ⌜ Inverse 257 a r ⌝ }
 {
     let i = a as usize;
-    INVERSES[i]
+    table[i]
 }
 
 // The inverse modulo a prime, worked out: a times `acc` is `cur` throughout, and `cur` falls to 1.
@@ -373,17 +381,28 @@ fn inverse_worked(p: u16, a: u16) -> u16
     acc
 }
 
-// The inverse of an element; 0 for 0.
-pub fn inverse(p: u16, a: u16) -> u16
+// The inverse of an element, 0 for 0, with the table lent.
+pub fn inverse_by(table: &[u16; 257], p: u16, a: u16) -> u16
     requires { ⌜ a < p ⌝ }
     requires { ⌜ Prime p ⌝ }
+    requires { ⌜ Inverses (now table) ⌝ }
     ensures { λ r. ⌜ Inverse p a r ⌝ }
 {
     if a == 0 {
         return 0;
     }
     match p {
-        Field::P257 => inverse_257(a),
+        Field::P257 => inverse_257(table, a),
         _ => inverse_worked(p, a),
     }
+}
+
+// The inverse of an element; 0 for 0.
+pub fn inverse(p: u16, a: u16) -> u16
+    requires { ⌜ a < p ⌝ }
+    requires { ⌜ Prime p ⌝ }
+    ensures { λ r. ⌜ Inverse p a r ⌝ }
+{
+    let table = inverses();
+    inverse_by(&table, p, a)
 }

@@ -5,6 +5,7 @@ ghost use Prim.Native.Nat.{ℕ, _+_, _*_, _%_, _<_, _≤_};
 ghost use lib.ListN.{length, getD};
 ghost use Rattle.base.specs.Fill.{tab};
 ghost use Rattle.base.specs.Matrix.{Below};
+ghost use Rattle.field.specs.Prime.{Inverses};
 ghost use Rattle.linear.specs.Dot.{at, dot, along};
 ghost use Rattle.linear.specs.Elimination.{pivotRow, alone, subEntry, subTo, scaleEntry, scaleTo, flatPivot, flatShown, flatUnsolved, flatFixes};
 ghost use Rattle.linear.specs.Contracts.{buffers, Fits, Ready, RowCleared, ColumnCleared, RowUsed, ColumnPassed, Reduction};
@@ -35,13 +36,13 @@ pub fn dot_product(
     field::residue(p, sum)
 }
 
-// y - f x modulo p.
+// y - f x modulo p. The sum fits 32 bits, of which a vector has more lanes.
 fn sub_entry(y: u64, x: u64, f: u16, p: u16) -> u16
     requires { ⌜ (y ≤ 65535) × (x ≤ 65535) × (f ≤ p) × (0 < p) ⌝ }
     ensures { λ r. ⌜ r ≡ subEntry p f y x ⌝ }
 {
-    let g = (p - f) as u64;
-    ((y + g * x) % (p as u64)) as u16
+    let g = (p - f) as u32;
+    (((y as u32) + g * (x as u32)) % (p as u32)) as u16
 }
 
 // The row that starts at t becomes that row less f times the row that starts at q: the loop.
@@ -166,28 +167,47 @@ fn mark(col: usize) -> u16
 }
 
 // Row k becomes the pivot row of the column.
-fn use_row(a: &mut [u16], used: &mut [u16], rows: usize, width: usize, k: usize, col: usize, p: u16)
+fn use_row(
+    table: &[u16; 257],
+    a: &mut [u16],
+    used: &mut [u16],
+    rows: usize,
+    width: usize,
+    k: usize,
+    col: usize,
+    p: u16,
+)
     requires { ⌜ Ready p rows width (now a) (now used) ⌝ }
     requires { ⌜ (k < rows) × (col < width) ⌝ }
+    requires { ⌜ Inverses (now table) ⌝ }
     ensures { λ _. ⌜ RowUsed p rows width k col (now (a .entry)) (now (used .entry)) (now (a .exit)) (now (used .exit)) ⌝ }
 {
     let t = k * width;
     let x = a[t + col];
-    let scale = field::inverse(p, x);
+    let scale = field::inverse_by(table, p, x);
     used[k] = mark(col);
     scale_row(a, width, t, scale, p);
     clear_column(a, rows, width, k, col, p);
 }
 
 // One column of the elimination.
-fn pass_column(a: &mut [u16], used: &mut [u16], rows: usize, width: usize, col: usize, p: u16)
+fn pass_column(
+    table: &[u16; 257],
+    a: &mut [u16],
+    used: &mut [u16],
+    rows: usize,
+    width: usize,
+    col: usize,
+    p: u16,
+)
     requires { ⌜ Ready p rows width (now a) (now used) ⌝ }
     requires { ⌜ col < width ⌝ }
+    requires { ⌜ Inverses (now table) ⌝ }
     ensures { λ _. ⌜ ColumnPassed p rows width col (now (a .entry)) (now (used .entry)) (now (a .exit)) (now (used .exit)) ⌝ }
 {
     let k = find_pivot(a, used, rows, width, col);
     if k < rows {
-        use_row(a, used, rows, width, k, col, p);
+        use_row(table, a, used, rows, width, k, col, p);
     }
 }
 
@@ -197,9 +217,10 @@ pub fn reduce(a: &mut [u16], used: &mut [u16], rows: usize, width: usize, pivots
     requires { ⌜ pivots ≤ width ⌝ }
     ensures { λ _. ⌜ Reduction p rows width pivots (now (a .entry)) (now (used .entry)) (now (a .exit)) (now (used .exit)) ⌝ }
 {
+    let table = field::inverses();
     let mut col = 0;
     while col < pivots {
-        pass_column(a, used, rows, width, col, p);
+        pass_column(&table, a, used, rows, width, col, p);
         col += 1;
     }
 }

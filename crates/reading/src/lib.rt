@@ -2,7 +2,8 @@
 // is not looked at. Refusals come by the call's table in records' specs/Records.antt.
 ghost use mathlib.Core.Path.{_≡_};
 ghost use mathlib.Core.List.{[]};
-ghost use Prim.Native.Nat.{_≤_};
+ghost use Prim.Native.Nat.{_+_, _*_, _≤_};
+ghost use lib.ListN.{length};
 ghost use Rattle.base.specs.Rules.{refusalFrom, refusal};
 ghost use Rattle.scheme.specs.Setup.{setupOf};
 ghost use Rattle.scheme.specs.Answers.{paperWritten};
@@ -109,9 +110,9 @@ fn dealing_due(s: Params, part: &[u8], g_room: usize, h_room: usize) -> u16
     or_due(a, part, 0x4C44, 6 + 4 * scheme::dim(s))
 }
 
-// The entries of a DL's g and h.
+// The entries of a DL's g and h, where they all stand in the part.
 fn dealing_entries(part: &[u8], d: usize, p: u16) -> u16
-    requires { ⌜ d ≤ 16 ⌝ }
+    requires { ⌜ 6 + 4 * d ≤ length (now part) ⌝ }
     ensures { λ r. ⌜ r ≡ refusal (dealingEntries p d (now (part .entry))) ⌝ }
 {
     let a = base::or_when(0, 4, !words::words_below(part, 3, d, p));

@@ -8,7 +8,7 @@ use native.Mathlib.Omega.{arith}
 use native.Mathlib.Nat.{mul-le-mul}
 use lib.Dec.{eqb, ltb, T}
 use lib.ListN.{length}
-use borrow.Author.Tests.{eqb-true, eq-eqb, not-false}
+use borrow.Author.Tests.{eqb-true, eq-eqb, ltb-false, not-false}
 use Rattle.base.specs.Rules.{Rule, _when_, refusalFrom, refusal, Rising, Clear, Answer}
 use Rattle.base.proofs.Choice.{T-right}
 use Rattle.field.specs.Fields.{isField}
@@ -93,10 +93,14 @@ setup-room S k e =
 pub setup-limits : (s : List ℕ) → refusal (readSetupRules s) ≡ 0 → Limits (setupAt s)
 setup-limits s e = limits-are (setupAt s) (let r = passed (readSetupRules s) tt e .1 .1 .1 in (r .0, (r .1 .0, (r .1 .1 .0, (r .1 .1 .1 .0, tt)))))
 
-pub matrix-room : (s : List ℕ) (k : ℕ) → refusal (readMatrixRules s k) ≡ 0 → (k ≡ setupAt s .n * dim (setupAt s)) × Limits (setupAt s)
+pub setup-whole : (s : List ℕ) → refusal (readSetupRules s) ≡ 0 → setupSize (setupAt s) ≤ length s
+setup-whole s e = ltb-false (length s) (setupSize (setupAt s)) (passed (readSetupRules s) tt e .1 .1 .1 .1 .1 .1 .1 .0)
+
+pub matrix-room : (s : List ℕ) (k : ℕ) → refusal (readMatrixRules s k) ≡ 0
+    → (k ≡ setupAt s .n * dim (setupAt s)) × (setupSize (setupAt s) ≤ length s)
 matrix-room s k e =
-    let r = passed (readMatrixRules s k) tt e .1 .1 .1 in
-    (room-is k _ (r .1 .1 .1 .1 .1 .0), limits-are (setupAt s) (r .0, (r .1 .0, (r .1 .1 .0, (r .1 .1 .1 .0, tt)))))
+    let r = passed (readMatrixRules s k) tt e .1 .1 .1 .1 .1 .1 .1 in
+    (room-is k _ (r .1 .0), ltb-false (length s) (setupSize (setupAt s)) (r .0))
 
 pub dealing-room : (S : Setup) (x : DealingRecord) (g h : List ℕ) (k : ℕ) → refusal (writeDealingRules S x g h k) ≡ 0
     → (length g ≡ dim S) × (length h ≡ dim S) × (k ≡ dealingSize S)
@@ -104,16 +108,14 @@ dealing-room S x g h k e =
     let r = passed (writeDealingRules S x g h k) tt e .1 .1 .1 .1 in
     (size-is g _ (r .0), size-is h _ (r .1 .0), room-is k _ (r .1 .1 .0))
 
-pub dealing-limits : (S : Setup) (s : List ℕ) (j k : ℕ) → refusal (dueDealing S s j k) ≡ 0 → Limits S
-dealing-limits S s j k e =
-    let r = passed (dueDealing S s j k) tt e in
-    limits-are S (r .0, (r .1 .0, (r .1 .1 .0, (r .1 .1 .1 .0, tt))))
+pub dealing-whole : (S : Setup) (s : List ℕ) (j k : ℕ) → refusal (dueDealing S s j k) ≡ 0 → dealingSize S ≤ length s
+dealing-whole S s j k e = ltb-false (length s) (dealingSize S) (passed (dueDealing S s j k) tt e .1 .1 .1 .1 .1 .1 .1 .1 .0)
 
-pub parts-room : (S : Setup) (s : List ℕ) (j k : ℕ) → refusal (readDealingRules S s j k) ≡ 0 → (j ≡ dim S) × (k ≡ dim S) × Limits S
+pub parts-room : (S : Setup) (s : List ℕ) (j k : ℕ) → refusal (readDealingRules S s j k) ≡ 0
+    → (j ≡ dim S) × (k ≡ dim S) × (dealingSize S ≤ length s)
 parts-room S s j k e =
-    let r = passed (readDealingRules S s j k) tt e in
-    let q = r .1 .1 .1 .1 in
-    (room-is j _ (q .0), room-is k _ (q .1 .0), limits-are S (r .0, (r .1 .0, (r .1 .1 .0, (r .1 .1 .1 .0, tt)))))
+    let r = passed (readDealingRules S s j k) tt e .1 .1 .1 .1 in
+    (room-is j _ (r .0), room-is k _ (r .1 .0), ltb-false (length s) (dealingSize S) (r .1 .1 .1 .1 .0))
 
 -- the numbers of a writer's table rise, and so do those of a record's own faults: the first that applies is the lowest
 pub setup-rising : (S : Setup) (k : ℕ) → Rising (writeSetupRules S k)

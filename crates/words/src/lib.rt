@@ -23,15 +23,23 @@ pub fn word(s: &[u8], i: usize) -> u16
     low + 256 * high
 }
 
+// Word i of bytes that reach past it: two plain reads, which the compiler makes one.
+fn whole(s: &[u8], i: usize) -> u16
+    requires { ⌜ 2 * i + 2 ≤ length (now s) ⌝ }
+    ensures { λ r. ⌜ r ≡ wordAt (now (s .entry)) i ⌝ }
+{
+    s[2 * i] as u16 + 256 * (s[2 * i + 1] as u16)
+}
+
 // Whether each of `count` words from word i on is below p. It reads them all.
 pub fn words_below(s: &[u8], i: usize, count: usize, p: u16) -> bool
-    requires { ⌜ i + count ≤ 65535 ⌝ }
+    requires { ⌜ 2 * (i + count) ≤ length (now s) ⌝ }
     ensures { λ r. ⌜ r ≡ allBelow p (wordsAt (now (s .entry)) i count) ⌝ }
 {
     let mut over: u16 = 0;
     let mut k = 0;
     while k < count {
-        if p <= word(s, i + k) {
+        if p <= whole(s, i + k) {
             over = 1;
         }
         k += 1;
@@ -41,12 +49,12 @@ pub fn words_below(s: &[u8], i: usize, count: usize, p: u16) -> bool
 
 // The words from word i on, as many as the lent buffer holds.
 pub fn get_words(s: &[u8], i: usize, out: &mut [u16])
-    requires { ⌜ i + length (now out) ≤ 65535 ⌝ }
+    requires { ⌜ 2 * (i + length (now out)) ≤ length (now s) ⌝ }
     ensures { λ _. ⌜ now (out .exit) ≡ wordsAt (now (s .entry)) i (length (now (out .entry))) ⌝ }
 {
     let mut k = 0;
     while k < out.len() {
-        out[k] = word(s, i + k);
+        out[k] = whole(s, i + k);
         k += 1;
     }
 }

@@ -11,10 +11,13 @@ use Rattle.linear.proofs.reduce.Statement.{statement}
 use Rattle.linear.proofs.reduce.Tie as tie
 
 abbrev Inv-loop : tie.InvT-loop
-Inv-loop a₀ used₀ rows width pivots p col₀ a used col = (col ≤ pivots) × (length a ≡ length a₀) × (length used ≡ length used₀) × Reduction p rows width col a₀ used₀ a used
+Inv-loop a₀ used₀ rows width pivots p table col₀ a used col = (col ≤ pivots) × (length a ≡ length a₀) × (length used ≡ length used₀) × Reduction p rows width col a₀ used₀ a used
 
 abbrev μ-loop : tie.MeasureT-loop
-μ-loop a₀ used₀ rows width pivots p col₀ a used col = pivots - col
+μ-loop a₀ used₀ rows width pivots p table col₀ a used col = pivots - col
+
+inverses-requires : tie.Need-inverses-requires Inv-loop μ-loop
+inverses-requires c κs = search needs
 
 loop-holds : tie.Need-loop-holds Inv-loop μ-loop
 unfolding flatReduce
@@ -22,9 +25,9 @@ loop-holds c = (omega arith, refl, refl, record { state = refl })
 
 pass-column-requires : tie.Need-pass-column-requires Inv-loop μ-loop
 pass-column-requires c κs =
-    let s = c .before .before .before .before .before .before in
+    let s = c .before .before .before .before .before .before .before .before in
     let x = s .args in
-    let l = c .before .before .before .loop in
+    let l = c .before .before .before .before .loop in
     let r = s .pre .0 in (
       record {
         fits = record { size = l .inv .1 ∙ r .fits .size; marks = l .inv .2 ∙ r .fits .marks; narrow = r .fits .narrow };
@@ -32,7 +35,7 @@ pass-column-requires c κs =
         below = rw (ap (λ (t : Flat). t .mat) (l .inv .3 .state))
             (below-reduce (x .p) (x .rows) (x .width) (l .col) (buffers (x .a .now) (x .used .now)) (omega (arith, r .prime .big)) (r .below));
       },
-      omega arith,
+      (omega arith, c .before .before .before .before .before .inverses .ensures),
     )
 
 add-col : tie.Need-add-col Inv-loop μ-loop
@@ -43,12 +46,12 @@ loop-less c = search needs
 
 loop-again : tie.Need-loop-again Inv-loop μ-loop
 loop-again c =
-    let x = c .before .before .before .before .before .before .before .before .before .before .before .args in
-    let l = c .before .before .before .before .before .before .before .before .loop in
+    let x = c .before .before .before .before .before .before .before .before .before .before .before .before .before .args in
+    let l = c .before .before .before .before .before .before .before .before .before .loop in
     let k = c .before .before .before .before .pass-column in (
       omega arith,
-      k .kept .0 ∙ l .inv .1,
-      k .kept .1 .0 ∙ l .inv .2,
+      k .kept .1 .0 ∙ l .inv .1,
+      k .kept .1 .1 .0 ∙ l .inv .2,
       record {
         state = reduce-step (x .p) (x .rows) (x .width) (l .col) (buffers (x .a .now) (x .used .now)) (buffers (l .a) (l .used)) _ (l .inv .3 .state)
             (k .ensures .state);
@@ -63,7 +66,7 @@ same-length-2 c = search needs
 
 returns : tie.Need-returns Inv-loop μ-loop
 returns c =
-    let x = c .before .before .before .before .args in
+    let x = c .before .before .before .before .before .args in
     let l = c .before .loop in
     let e : l .col ≡ x .pivots = omega arith in
     subst (λ (n : ℕ). Reduction (x .p) (x .rows) (x .width) n (x .a .now) (x .used .now) (l .a) (l .used)) e (l .inv .3)
@@ -74,6 +77,7 @@ reduce-spec =
     (tie.spec
     Inv-loop
     μ-loop
+    inverses-requires
     loop-holds
     pass-column-requires
     add-col

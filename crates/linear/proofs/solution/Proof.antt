@@ -12,13 +12,13 @@ use Rattle.linear.proofs.solution.Statement.{statement}
 use Rattle.linear.proofs.solution.Tie as tie
 
 abbrev Inv-loop : tie.InvT-loop
-Inv-loop a used rows width b x₀ place₀ x place = (place ≤ length x₀) × (length x ≡ length x₀) × (x ≡ filled (flatShown rows width b (buffers a used)) place x₀)
+Inv-loop a used rows width b x₀ place₀ x place = (x ≡ filled (flatShown rows width b (buffers a used)) place x₀) × (length x ≡ length x₀) × (place ≤ length x₀)
 
 abbrev μ-loop : tie.MeasureT-loop
 μ-loop a used rows width b x₀ place₀ x place = length x₀ - place
 
 loop-holds : tie.Need-loop-holds Inv-loop μ-loop
-loop-holds c = (search needs, refl, filled-none _ _)
+loop-holds c = (filled-none _ _, refl, search needs)
 
 shown-requires : tie.Need-shown-requires Inv-loop μ-loop
 shown-requires c κs = search needs
@@ -39,7 +39,7 @@ loop-again : tie.Need-loop-again Inv-loop μ-loop
 loop-again c =
     let x = c .before .before .before .before .before .before .args in
     let l = c .before .before .loop in
-    (search needs, search needs, filled-store (flatShown (x .rows) (x .width) (x .b) (buffers (x .a .now) (x .used .now))) (l .place) (x .x .now) (l .x) _ (l .inv .2) (c .shown .ensures))
+    (filled-store (flatShown (x .rows) (x .width) (x .b) (buffers (x .a .now) (x .used .now))) (l .place) (x .x .now) (l .x) _ (l .inv .0) (c .shown .ensures), search needs, search needs)
 
 same-length : tie.Need-same-length Inv-loop μ-loop
 same-length c = search needs
@@ -49,7 +49,7 @@ returns c =
     let x = c .before .before .before .before .before .args in
     let l = c .before .loop in
     let e : l .place ≡ length (x .x .now) = omega arith in
-    l .inv .2 ∙ ap (λ n. filled (flatShown (x .rows) (x .width) (x .b) (buffers (x .a .now) (x .used .now))) n (x .x .now)) e ∙ filled-whole _ 0 (x .x .now)
+    l .inv .0 ∙ ap (λ n. filled (flatShown (x .rows) (x .width) (x .b) (buffers (x .a .now) (x .used .now))) n (x .x .now)) e ∙ filled-whole _ 0 (x .x .now)
 
 pub solution-spec : {M : Type 1} → statement M
 solution-spec =

@@ -1,4 +1,4 @@
--- The sum of an entry and a product of two numbers of 16 bits fits 64 bits, so the code computes the definition.
+-- The sum of an entry and a product of two numbers of 16 bits fits 32 bits, so the code computes the definition.
 use Prim.Native.Nat.{_+_, _-_, _*_}
 use mathlib.Core.Path.{refl}
 use native.Mathlib.Omega.{arith}
@@ -15,6 +15,12 @@ sub-g c = search needs
 cast-g : tie.Need-cast-g
 cast-g c = search needs
 
+cast-result : tie.Need-cast-result
+cast-result c = search needs
+
+cast-result-2 : tie.Need-cast-result-2
+cast-result-2 c = search needs
+
 mul-result : tie.Need-mul-result
 mul-result c = omega (arith, prod-le (c .args .p - c .args .f) (c .args .x) (omega arith) (omega arith))
 
@@ -24,8 +30,8 @@ add-result c = omega (arith, prod-le (c .args .p - c .args .f) (c .args .x) (ome
 rem-result : tie.Need-rem-result
 rem-result c = search needs
 
-cast-result : tie.Need-cast-result
-cast-result c = omega (arith, mod-lt (c .args .y + (c .args .p - c .args .f) * c .args .x) (c .pre .3))
+cast-result-3 : tie.Need-cast-result-3
+cast-result-3 c = omega (arith, mod-lt (c .args .y + (c .args .p - c .args .f) * c .args .x) (c .pre .3))
 
 returns : tie.Need-returns
 unfolding subEntry
@@ -33,4 +39,4 @@ returns c = refl
 
 pub sub-entry-spec : {M : Type 1} → statement M
 sub-entry-spec =
-    tie.close (tie.spec sub-g cast-g mul-result add-result rem-result cast-result returns)
+    tie.close (tie.spec sub-g cast-g cast-result cast-result-2 mul-result add-result rem-result cast-result-3 returns)

@@ -19,11 +19,11 @@ mul-x c = let x = c .before .before .args in omega (arith, entry-fits (x .rows) 
 slice-read-x : tie.Need-slice-read-x
 slice-read-x c = let x = c .before .before .before .args in omega (arith, entry-fits (x .rows) (x .width) (x .k) (x .col) (omega arith) (omega arith))
 
-inverse-requires : tie.Need-inverse-requires
-inverse-requires c κs =
+inverse-by-requires : tie.Need-inverse-by-requires
+inverse-by-requires c κs =
     let s = c .before .before .before in
     let x = s .args in
-    (s .pre .0 .below (x .k * x .width + x .col), s .pre .0 .prime)
+    (s .pre .0 .below (x .k * x .width + x .col), (s .pre .0 .prime, s .pre .1 .1))
 
 mark-requires : tie.Need-mark-requires
 mark-requires c κs = search needs
@@ -55,7 +55,7 @@ same-length-2 c = search needs
 returns : tie.Need-returns
 returns c =
     let x = c .before .before .before .before .before .before .before .before .before .before .before .before .before .args in
-    let inverse = c .before .before .before .before .before .before .before .before .before .inverse in
+    let inverse = c .before .before .before .before .before .before .before .before .before .inverse-by in
     let mark = c .before .before .before .before .before .before .before .before .mark in
     let scaled = c .before .before .before .before .before .before .scale-row in
     let cleared = c .before .before .clear-column in
@@ -72,7 +72,7 @@ use-row-spec =
     add-x
     mul-x
     slice-read-x
-    inverse-requires
+    inverse-by-requires
     mark-requires
     mul-used
     slice-write-used

@@ -10,7 +10,7 @@ use Rattle.scheme.specs.Setup.{dim, setupOf}
 use Rattle.scheme.proofs.Calls.{declined, unchanged}
 use Rattle.words.specs.Words.{wordsAt}
 use Rattle.records.specs.declared.DealingRecord.{DealingRecord}
-use Rattle.records.proofs.Calls.{accepted, written, parts-room, dim-small}
+use Rattle.records.proofs.Calls.{accepted, written, parts-room}
 use Rattle.reading.proofs.read_dealing.Statement.{statement}
 use Rattle.reading.proofs.read_dealing.Tie as tie
 
@@ -28,7 +28,7 @@ get-words-requires c κs =
     let r = c .before .before in
     let x = r .before .before .before .before .args in
     let k = parts-room (setupOf (x .s) []) (x .part .now) (length (x .g .now)) (length (x .h .now)) (sym (r .read-dealing-refusal .ensures) ∙ c .before .if1 .left) in
-    omega (arith, k .0, dim-small _ (k .2))
+    omega (arith, k .0, k .2)
 
 dim-requires : tie.Need-dim-requires
 dim-requires c κs = search needs
@@ -41,7 +41,7 @@ get-words-requires-2 c κs =
     let r = c .before .before .before .before .before .before .before in
     let x = r .before .before .before .before .args in
     let k = parts-room (setupOf (x .s) []) (x .part .now) (length (x .g .now)) (length (x .h .now)) (sym (r .read-dealing-refusal .ensures) ∙ c .before .before .before .before .before .before .if1 .left) in
-    omega (arith, k .1, dim-small _ (k .2), c .before .dim .ensures .0)
+    omega (arith, k .1, k .2, c .before .dim .ensures .0)
 
 dealing-at-requires : tie.Need-dealing-at-requires
 dealing-at-requires c κs = search needs

@@ -1,4 +1,4 @@
--- A number that the lent buffers, the mark or the length give stays; else d is within its limits, and the entries and the two numbers decide.
+-- A number that the lent buffers, the mark or the length give stays; else the record is not cut short, and the entries and the two numbers decide.
 use Prim.Native.Nat.{_+_}
 use mathlib.Core.List.{[], _++_}
 use mathlib.Core.Path.{sym, ap, _∙_}
@@ -9,7 +9,7 @@ use Rattle.scheme.specs.Setup.{dim, setupOf}
 use Rattle.scheme.proofs.Calls.{refusal-after}
 use Rattle.records.specs.declared.DealingRecord.{DealingRecord}
 use Rattle.records.specs.Records.{dueDealing, dealingEntries, dealingFaults, dealingAt}
-use Rattle.records.proofs.Calls.{stays, passed, dim-small, dealing-limits}
+use Rattle.records.proofs.Calls.{stays, passed, dealing-whole}
 use Rattle.reading.proofs.read_dealing_refusal.Statement.{statement}
 use Rattle.reading.proofs.read_dealing_refusal.Tie as tie
 
@@ -32,7 +32,7 @@ dealing-entries-requires c κs =
     let e = sym (c .before .before .dealing-due .ensures) ∙ c .before .if1 .left in
     let x = c .before .before .before .before .args in
     let S = setupOf (x .s) [] in
-    omega (arith, dim-small S (dealing-limits S (x .part .now) (x .g-room) (x .h-room) e), c .dim .ensures .0)
+    omega (arith, dealing-whole S (x .part .now) (x .g-room) (x .h-room) e, c .dim .ensures .0)
 
 dealing-at-requires : tie.Need-dealing-at-requires
 dealing-at-requires c κs = search needs

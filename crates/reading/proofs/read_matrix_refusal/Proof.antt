@@ -1,4 +1,4 @@
--- A number that the head gives stays; else n and d are within their limits, and the rules of the lent matrix and of its entries decide.
+-- A number that the head gives stays; else the record is not cut short, and the rules of the lent matrix and of its entries decide.
 use Prim.Native.Nat.{_+_, _*_}
 use mathlib.Core.Bool.{not}
 use mathlib.Core.List.{[], _∷_}
@@ -14,7 +14,7 @@ use Rattle.scheme.specs.Calls.{elements}
 use Rattle.scheme.proofs.Calls.{refusal-after}
 use Rattle.words.specs.Words.{wordsAt}
 use Rattle.records.specs.Records.{room, setupAt, readSetupRules}
-use Rattle.records.proofs.Calls.{stays, passed, setup-limits, matrix-small}
+use Rattle.records.proofs.Calls.{stays, passed, setup-whole}
 use Rattle.reading.proofs.read_matrix_refusal.Statement.{statement}
 use Rattle.reading.proofs.read_matrix_refusal.Tie as tie
 
@@ -41,7 +41,7 @@ words-below-requires c κs =
     let s = c .before .before .before .before .before .before .args .s .now in
     let e = sym (c .before .before .before .before .read-setup-refusal .ensures) ∙ c .before .before .before .if1 .left in
     let x = c .before .before .params-at .ensures in
-    omega (arith, c .before .matrix-len .ensures ∙ ap (λ (y : Params). y .n * (y .l + y .e)) x, matrix-small (setupAt s) (setup-limits s e))
+    omega (arith, c .before .matrix-len .ensures ∙ ap (λ (y : Params). y .n * (y .l + y .e)) x, setup-whole s e)
 
 or-when-requires : tie.Need-or-when-requires
 or-when-requires c κs = search needs

@@ -5,7 +5,7 @@ use borrow.Author.Needs.{needs}
 use lib.ListN.{length}
 use Rattle.scheme.proofs.Calls.{declined, unchanged}
 use Rattle.words.specs.Words.{wordsAt}
-use Rattle.records.proofs.Calls.{accepted, written, matrix-room, matrix-small}
+use Rattle.records.proofs.Calls.{accepted, written, matrix-room}
 use Rattle.reading.proofs.read_setup_matrix.Statement.{statement}
 use Rattle.reading.proofs.read_setup_matrix.Tie as tie
 
@@ -22,7 +22,7 @@ get-words-requires c κs =
     let r = c .before .before in
     let x = r .before .before .before .args in
     let k = matrix-room (x .s .now) (length (x .matrix .now)) (sym (r .read-matrix-refusal .ensures) ∙ c .before .if1 .left) in
-    omega (arith, k .0, matrix-small _ (k .1))
+    omega (arith, k .0, k .1)
 
 same-length : tie.Need-same-length
 same-length c = search needs

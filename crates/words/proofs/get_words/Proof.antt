@@ -19,11 +19,11 @@ abbrev μ-loop : tie.MeasureT-loop
 loop-holds : tie.Need-loop-holds Inv-loop μ-loop
 loop-holds c = (omega arith, refl, filled-none _ _)
 
-add-word : tie.Need-add-word Inv-loop μ-loop
-add-word c = search needs
+add-whole : tie.Need-add-whole Inv-loop μ-loop
+add-whole c = search needs
 
-word-requires : tie.Need-word-requires Inv-loop μ-loop
-word-requires c κs = search needs
+whole-requires : tie.Need-whole-requires Inv-loop μ-loop
+whole-requires c κs = search needs
 
 mul-out : tie.Need-mul-out Inv-loop μ-loop
 mul-out c = search needs
@@ -43,7 +43,7 @@ loop-again c =
     let x = l .before .before .before .args in (
       simp length-set (omega arith),
       simp length-set (omega arith),
-      filled-store (λ j. wordAt (x .s .now) (x .i + j)) (l .loop .k) (x .out .now) (l .loop .out) (c .word .result) (l .loop .inv .2) (c .word .ensures),
+      filled-store (λ j. wordAt (x .s .now) (x .i + j)) (l .loop .k) (x .out .now) (l .loop .out) (c .whole .result) (l .loop .inv .2) (c .whole .ensures),
     )
 
 same-length : tie.Need-same-length Inv-loop μ-loop
@@ -64,8 +64,8 @@ get-words-spec =
     Inv-loop
     μ-loop
     loop-holds
-    add-word
-    word-requires
+    add-whole
+    whole-requires
     mul-out
     slice-write-out
     add-k

@@ -22,11 +22,11 @@ abbrev μ-loop : tie.MeasureT-loop
 loop-holds : tie.Need-loop-holds Inv-loop μ-loop
 loop-holds c = (omega arith, sym (every-none _))
 
-add-word : tie.Need-add-word Inv-loop μ-loop
-add-word c = search needs
+add-whole : tie.Need-add-whole Inv-loop μ-loop
+add-whole c = search needs
 
-word-requires : tie.Need-word-requires Inv-loop μ-loop
-word-requires c κs = search needs
+whole-requires : tie.Need-whole-requires Inv-loop μ-loop
+whole-requires c κs = search needs
 
 add-k : tie.Need-add-k Inv-loop μ-loop
 add-k c = search needs
@@ -40,8 +40,8 @@ loop-again c =
     let x = l .before .before .args in
     let t : ℕ → Bool = λ j. ltb (wordAt (x .s .now) (x .i + j)) (x .p) in (
       search needs,
-      ⊎-elim (λ w. failed t (l .loop .k) (c .if1 .over) (ap (λ v. ltb v (x .p)) (sym (c .before .word .ensures)) ∙ le-ltb _ _ (w .0 .taken)) (w .1))
-          (λ w. rw (w .1) (passed t (l .loop .k) (l .loop .over) (ap (λ v. ltb v (x .p)) (sym (c .before .word .ensures)) ∙ lt-ltb _ _ (w .0 .left)) (l .loop .inv .1)))
+      ⊎-elim (λ w. failed t (l .loop .k) (c .if1 .over) (ap (λ v. ltb v (x .p)) (sym (c .before .whole .ensures)) ∙ le-ltb _ _ (w .0 .taken)) (w .1))
+          (λ w. rw (w .1) (passed t (l .loop .k) (l .loop .over) (ap (λ v. ltb v (x .p)) (sym (c .before .whole .ensures)) ∙ lt-ltb _ _ (w .0 .left)) (l .loop .inv .1)))
           (c .if1 .came),
     )
 
@@ -54,4 +54,4 @@ returns c =
 pub words-below-spec : {M : Type 1} → statement M
 words-below-spec =
     tie.close
-    (tie.spec Inv-loop μ-loop loop-holds add-word word-requires add-k loop-less loop-again returns)
+    (tie.spec Inv-loop μ-loop loop-holds add-whole whole-requires add-k loop-less loop-again returns)

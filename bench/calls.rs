@@ -1,0 +1,224 @@
+//! Each call against the same call of the reference.
+
+use crate::inputs::*;
+use crate::measure::*;
+use crate::{ours, raw, TURN};
+use reference::Answer;
+use std::hint::black_box;
+
+pub fn field(t: &mut Table) {
+    let ps = [2, 7, 251, 257, 65521, 0, 1, 256, 65535, 2, 7, 251, 257, 65521, 3, 8];
+    // By a pointer, so that the reference is called as ours is and not copied into the loop.
+    let theirs: fn(u16) -> Answer = black_box(reference::field);
+    t.line("field", |k, _| digest(unsafe { raw::mavdrusek_field(ps[k]) }, &[]), |k, _| digest(theirs(ps[k]).number, &[]));
+}
+
+pub fn calls(t: &mut Table, w: &World) {
+    let s = w.s;
+    let (l, d, n) = (s.l as usize, s.d(), s.n as usize);
+    let name = |call: &str| format!("{call} p {}", s.p);
+    let holder = |k: usize| k * 7 % n;
+    let (mut a, mut b) = (vec![0u16; n * d], vec![0u16; n * d]);
+    let (mut c, mut e) = (vec![0u16; n * d], vec![0u16; n * d]);
+
+    if s.d() + n <= s.p as usize {
+        t.line(
+            &name("points"),
+            |_, look| {
+                let r = ours::points(black_box(s), &mut a);
+                give(look, || digest(r, &a), r)
+            },
+            |_, look| {
+                let r = reference::points(black_box(s), &mut b);
+                give(look, || of(&r, &b), r.number)
+            },
+        );
+    }
+    t.line(
+        &name("deal"),
+        |k, look| {
+            let x = &w.deals[k];
+            let r = ours::deal(s, w.m(k), &x.secrets, &x.random, holder(k) as u16, &mut a[..d], &mut c[..d]);
+            give(look, || digest(r, &[&a[..d], &c[..d]].concat()), r)
+        },
+        |k, look| {
+            let x = &w.deals[k];
+            let r = reference::deal(s, w.m(k), &x.secrets, &x.random, holder(k) as u16, &mut b[..d], &mut e[..d]);
+            give(look, || of(&r, &[&b[..d], &e[..d]].concat()), r.number)
+        },
+    );
+    t.line(
+        &name("deal_all"),
+        |k, look| {
+            let x = &w.deals[k];
+            let r = ours::deal_all(s, w.m(k), &x.secrets, &x.random, &mut a, &mut c);
+            give(look, || digest(r, &[&a[..], &c[..]].concat()), r)
+        },
+        |k, look| {
+            let x = &w.deals[k];
+            let r = reference::deal_all(s, w.m(k), &x.secrets, &x.random, &mut b, &mut e);
+            give(look, || of(&r, &[&b[..], &e[..]].concat()), r.number)
+        },
+    );
+    let too_high: Vec<Vec<u16>> = w.deals.iter().map(|x| [&x.random[..x.random.len() - 1], &[s.p]].concat()).collect();
+    t.line(
+        &name("deal_all, refused 4"),
+        |k, _| ours::deal_all(s, w.m(k), &w.deals[k].secrets, &too_high[k], &mut a, &mut c) as u64,
+        |k, _| reference::deal_all(s, w.m(k), &w.deals[k].secrets, &too_high[k], &mut b, &mut e).number as u64,
+    );
+
+    let mut value = 0;
+    t.line(
+        &name("pair_value"),
+        |k, look| {
+            let r = ours::pair_value(s, w.m(k), w.g(k, holder(k)), (k % n) as u16, &mut value);
+            give(look, || digest(r, &[value]), r | value)
+        },
+        |k, look| {
+            let r = reference::pair_value(s, w.m(k), w.g(k, holder(k)), (k % n) as u16);
+            give(look, || of(&r, &[]), r.values[0])
+        },
+    );
+    let wrong: Vec<Vec<u16>> = (0..TURN)
+        .map(|k| {
+            let mut v = w.values(k, holder(k)).to_vec();
+            v[k * 5 % n] = (v[k * 5 % n] + 1) % s.p;
+            v
+        })
+        .collect();
+    for (call, rejects) in [("judge, accept", false), ("judge, reject", true)] {
+        let received = |k: usize| if rejects { &wrong[k][..] } else { w.values(k, holder(k)) };
+        let (mut verdict, mut named) = (0, 0);
+        t.line(
+            &name(call),
+            |k, look| {
+                let r = ours::judge(s, w.m(k), w.h(k, holder(k)), received(k), &mut verdict, &mut named);
+                let said = if verdict == 1 { &[1][..] } else { &[0, named][..] };
+                give(look, || digest(r, said), r | verdict)
+            },
+            |k, look| {
+                let r = reference::judge(s, w.m(k), w.h(k, holder(k)), received(k));
+                give(look, || of(&r, &[]), r.values[0])
+            },
+        );
+    }
+    let said: Vec<Vec<u16>> = (0..TURN).map(|k| (0..n).map(|i| (i != k * 5 % n) as u16).collect()).collect();
+    let accepts = vec![1; n];
+    for (call, aborted) in [("outcome, kept", false), ("outcome, aborted", true)] {
+        let verdicts = |k: usize| if aborted { &said[k][..] } else { &accepts[..] };
+        let (mut kept, mut named) = (0, 0);
+        t.line(
+            &name(call),
+            |k, look| {
+                let r = ours::outcome(s, w.g(k, holder(k)), verdicts(k), &mut a[..l], &mut kept, &mut named);
+                let found = if kept == 1 { &[1][..] } else { &[0, named][..] };
+                give(look, || digest(r, &[found, if aborted { &[] } else { &a[..l] }].concat()), r | kept)
+            },
+            |k, look| {
+                let r = reference::outcome(s, w.g(k, holder(k)), verdicts(k), &mut b[..l]);
+                give(look, || of(&r, if aborted { &[] } else { &b[..l] }), r.values[0])
+            },
+        );
+    }
+    let lies: Vec<Vec<u16>> = (0..TURN)
+        .map(|k| {
+            let mut hs = w.deals[k].hs.clone();
+            let at = k * 13 % hs.len();
+            hs[at] = (hs[at] + 1) % s.p;
+            hs
+        })
+        .collect();
+    for (call, lied) in [("rehearse, fair", false), ("rehearse, disagree", true)] {
+        let hs = |k: usize| if lied { &lies[k] } else { &w.deals[k].hs };
+        let mut found = [0; 3];
+        t.line(
+            &name(call),
+            |k, look| {
+                let r = ours::rehearse(s, w.m(k), &w.deals[k].gs, hs(k), &mut found);
+                give(look, || digest(r, if found[0] == 1 { &found[..1] } else { &found }), r | found[0])
+            },
+            |k, look| {
+                let r = reference::rehearse(s, w.m(k), &w.deals[k].gs, hs(k));
+                give(look, || of(&r, &[]), r.values[0])
+            },
+        );
+    }
+    for terms in [2, 64] {
+        let mut r = Random(terms as u64);
+        let drawn: Vec<[Vec<u16>; 2]> = (0..TURN).map(|_| [r.elements(s.p, terms), r.elements(s.p, terms)]).collect();
+        t.line(
+            &name(&format!("combine {terms}")),
+            |k, look| {
+                let r = ours::combine(s.p, &drawn[k][0], &drawn[k][1], &mut value);
+                give(look, || digest(r, &[value]), r | value)
+            },
+            |k, look| {
+                let r = reference::combine(s.p, &drawn[k][0], &drawn[k][1]);
+                give(look, || of(&r, &[]), r.values[0])
+            },
+        );
+    }
+
+    let few = (s.e as usize).min(n);
+    for (who, sets) in [("e members", w.sets(few, false)), ("d members", w.sets(d.min(n), true)), ("all", vec![everyone(s); TURN])] {
+        let mut yes = 0;
+        t.line(
+            &name(&format!("determines, {who}")),
+            |k, look| {
+                let r = ours::determines(s, w.m(k), sets[k], &mut yes);
+                give(look, || digest(r, &[yes]), r | yes)
+            },
+            |k, look| {
+                let r = reference::determines(s, w.m(k), sets[k]);
+                give(look, || of(&r, &[]), r.values[0])
+            },
+        );
+        t.line(
+            &name(&format!("private, {who}")),
+            |k, look| {
+                let r = ours::private(s, w.m(k), sets[k], &mut yes);
+                give(look, || digest(r, &[yes]), r | yes)
+            },
+            |k, look| {
+                let r = reference::private(s, w.m(k), sets[k]);
+                give(look, || of(&r, &[]), r.values[0])
+            },
+        );
+        let (mut row, mut other) = ([0; 32], [0; 32]);
+        let mut kind = 0;
+        // Which row or vector is written is left open, so only the kinds are compared, and ours is tested to be one of its kind.
+        t.line(
+            &name(&format!("judge_set, {who}")),
+            |k, look| {
+                let q = (k % l) as u16;
+                let r = ours::judge_set(s, w.m(k), sets[k], q, &mut row, &mut kind);
+                assert!(!look || reference::is_of_kind(s, w.m(k), sets[k], q, kind, &row));
+                give(look, || digest(r, &[kind]), r | kind)
+            },
+            |k, look| {
+                let r = reference::judge_set(s, w.m(k), sets[k], (k % l) as u16, &mut other);
+                give(look, || of(&r, &[]), r.values[0])
+            },
+        );
+        let shares: Vec<Vec<u16>> = (0..TURN).map(|k| w.shares(k, sets[k], k % l)).collect();
+        let mut changed = shares.clone();
+        for (k, x) in changed.iter_mut().enumerate() {
+            let at = k % x.len();
+            x[at] = (x[at] + 1) % s.p;
+        }
+        let mut position = 0;
+        for (case, handed) in [("", &shares), (", one share changed", &changed)] {
+            t.line(
+                &name(&format!("open, {who}{case}")),
+                |k, look| {
+                    let r = ours::open(s, w.m(k), sets[k], &handed[k], &mut a[..l], &mut position);
+                    give(look, || digest(r, if r == 0 { &a[..l] } else { &[] }), r)
+                },
+                |k, look| {
+                    let r = reference::open(s, w.m(k), sets[k], &handed[k], &mut b[..l]);
+                    give(look, || digest(r.number, if r.number == 0 { &b[..l] } else { &[] }), r.number)
+                },
+            );
+        }
+    }
+}

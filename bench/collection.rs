@@ -1,0 +1,128 @@
+//! The whole collection of keys, and how time grows.
+
+use crate::inputs::*;
+use crate::measure::*;
+use crate::{ours, TURN};
+use std::time::Instant;
+
+pub fn collection() {
+    const KEYS: usize = 9400;
+    const CHUNK: usize = 470;
+    let w = &board();
+    let (s, m) = (w.s, w.m(0));
+    let mut r = Random(257);
+    let keys: Vec<(Vec<u16>, Vec<u16>)> = (0..KEYS).map(|_| (r.elements(256, 16), r.elements(257, 33))).collect();
+    let set = 0b1000_0100_1011_0101;
+
+    let (mut gs, mut hs) = ([0; 112], [0; 112]);
+    let mut ours = |chunk: &[(Vec<u16>, Vec<u16>)]| {
+        for (secrets, random) in chunk {
+            assert_eq!(ours::deal_all(s, m, secrets, random, &mut gs, &mut hs), 0);
+            let mut verdicts = [0; 16];
+            for i in 0..16 {
+                let mut values = [0; 16];
+                for j in 0..16 {
+                    ours::pair_value(s, m, &gs[j * 7..][..7], i as u16, &mut values[j]);
+                }
+                ours::judge(s, m, &hs[i * 7..][..7], &values, &mut verdicts[i], &mut 0);
+            }
+            let mut shares = [[0; 4]; 16];
+            for i in 0..16 {
+                let mut kept = 0;
+                ours::outcome(s, &gs[i * 7..][..7], &verdicts, &mut shares[i], &mut kept, &mut 0);
+                assert_eq!(kept, 1);
+            }
+            for b in 0..4 {
+                let (mut handed, mut back) = ([0; 7], [0; 4]);
+                for (x, i) in handed.iter_mut().zip(members(set)) {
+                    *x = shares[i][b];
+                }
+                assert_eq!(ours::open(s, m, set, &handed, &mut back, &mut 0), 0);
+                assert_eq!(back, secrets[4 * b..][..4]);
+            }
+        }
+    };
+    let (mut ref_gs, mut ref_hs) = ([0; 112], [0; 112]);
+    let mut theirs = |chunk: &[(Vec<u16>, Vec<u16>)]| {
+        for (secrets, random) in chunk {
+            assert_eq!(reference::deal_all(s, m, secrets, random, &mut ref_gs, &mut ref_hs).number, 0);
+            let mut verdicts = [0; 16];
+            for i in 0..16 {
+                let mut values = [0; 16];
+                for j in 0..16 {
+                    values[j] = reference::pair_value(s, m, &ref_gs[j * 7..][..7], i as u16).values[0];
+                }
+                verdicts[i] = reference::judge(s, m, &ref_hs[i * 7..][..7], &values).values[0];
+            }
+            let mut shares = [[0; 4]; 16];
+            for i in 0..16 {
+                assert_eq!(reference::outcome(s, &ref_gs[i * 7..][..7], &verdicts, &mut shares[i]).values[0], 1);
+            }
+            for b in 0..4 {
+                let (mut handed, mut back) = ([0; 7], [0; 4]);
+                for (x, i) in handed.iter_mut().zip(members(set)) {
+                    *x = shares[i][b];
+                }
+                assert_eq!(reference::open(s, m, set, &handed, &mut back).number, 0);
+                assert_eq!(back, secrets[4 * b..][..4]);
+            }
+        }
+    };
+    let mut times = [vec![], vec![]];
+    for (k, chunk) in keys.chunks(CHUNK).enumerate() {
+        for turn in 0..2 {
+            let start = Instant::now();
+            let who = (k + turn) % 2;
+            if who == 0 {
+                ours(chunk);
+            } else {
+                theirs(chunk);
+            }
+            times[who].push(start.elapsed().as_secs_f64());
+        }
+    }
+    let [a, b] = times.map(|x| median(x) * (KEYS / CHUNK) as f64);
+    println!();
+    println!("the collection: {KEYS} keys dealt, values exchanged and judged by all 16, kept, four columns opened by 7");
+    println!("{:40} {a:8.3} s {b:8.3} s {:7.3}", "collection", a / b);
+}
+
+pub fn growth() {
+    println!();
+    println!("how time grows, ns");
+    let one = |f: Runner| medians(&mut [f], ROUNDS)[0];
+    let series = |words: &str, steps: &[u16], time: &dyn Fn(u16) -> f64| {
+        let mut text = format!("{words}:");
+        for (k, &x) in steps.iter().enumerate() {
+            text += &format!("{} {x}: {:.0}", if k == 0 { "" } else { "," }, time(x));
+        }
+        println!("{text}");
+    };
+    let open = |w: &World, k: usize| {
+        let sets = w.sets(k, true);
+        let shares: Vec<Vec<u16>> = (0..TURN).map(|x| w.shares(x, sets[x], 0)).collect();
+        let mut out = vec![0; w.s.l as usize];
+        one(runner(|x, _| ours::open(w.s, w.m(x), sets[x], &shares[x], &mut out, &mut 0) as u64))
+    };
+    let judge_set = |w: &World, k: usize| {
+        let sets = w.sets(k, true);
+        let mut out = [0; 32];
+        one(runner(|x, _| ours::judge_set(w.s, w.m(x), sets[x], 0, &mut out, &mut 0) as u64))
+    };
+    let deal_all = |w: &World| {
+        let (mut gs, mut hs) = (vec![0; w.s.entries()], vec![0; w.s.entries()]);
+        one(runner(|x, _| ours::deal_all(w.s, w.m(x), &w.deals[x].secrets, &w.deals[x].random, &mut gs, &mut hs) as u64))
+    };
+    let judge = |w: &World| one(runner(|x, _| ours::judge(w.s, w.m(x), w.h(x, 0), w.values(x, 0), &mut 0, &mut 0) as u64));
+    let wide = World::new(257, 4, 3, 32);
+    series("open, p 257, l 4, e 3, n 32, by k", &[7, 8, 12, 16, 24, 32], &|k| open(&wide, k as usize));
+    series("judge_set, p 257, l 4, e 3, n 32, k", &[7, 8, 12, 16, 24, 32], &|k| judge_set(&wide, k as usize));
+    let of_width = |d: u16| World::new(257, d / 2, d / 2, 16);
+    series("open, p 257, n 16, by d members, d", &[2, 4, 8, 12, 16], &|d| open(&of_width(d), d as usize));
+    series("judge_set, p 257, n 16, d members, d", &[2, 4, 8, 12, 16], &|d| judge_set(&of_width(d), d as usize));
+    series("deal_all, p 257, n 16, d", &[2, 4, 8, 12, 16], &|d| deal_all(&of_width(d)));
+    let of_holders = |n: u16| World::new(257, 4, 3, n);
+    series("deal_all, p 257, l 4, e 3, n", &[1, 2, 4, 8, 16, 32], &|n| deal_all(&of_holders(n)));
+    series("judge, p 257, l 4, e 3, n", &[1, 2, 4, 8, 16, 32], &|n| judge(&of_holders(n)));
+    series("open, p 257, l 4, e 3, by 7, n", &[7, 8, 16, 32], &|n| open(&of_holders(n), 7));
+}

@@ -1,0 +1,163 @@
+//! Inputs: setups, dealings, sets and files, drawn from a seed.
+
+use crate::TURN;
+use reference::Params;
+
+/// SplitMix64.
+pub struct Random(pub u64);
+
+impl Random {
+    pub fn next(&mut self) -> u64 {
+        self.0 = self.0.wrapping_add(0x9E3779B97F4A7C15);
+        let mut z = self.0;
+        z = (z ^ z >> 30).wrapping_mul(0xBF58476D1CE4E5B9);
+        z = (z ^ z >> 27).wrapping_mul(0x94D049BB133111EB);
+        z ^ z >> 31
+    }
+    pub fn below(&mut self, n: usize) -> usize {
+        (self.next() % n as u64) as usize
+    }
+    pub fn elements(&mut self, p: u16, n: usize) -> Vec<u16> {
+        (0..n).map(|_| self.below(p as usize) as u16).collect()
+    }
+    pub fn shuffle<T>(&mut self, xs: &mut [T]) {
+        for i in (1..xs.len()).rev() {
+            xs.swap(i, self.below(i + 1));
+        }
+    }
+    /// So many holders out of n.
+    pub fn set(&mut self, n: u16, members: usize) -> u32 {
+        let mut set = 0u32;
+        while (set.count_ones() as usize) < members {
+            set |= 1 << self.below(n as usize);
+        }
+        set
+    }
+}
+
+pub struct Deal {
+    pub m: Vec<u16>,
+    pub secrets: Vec<u16>,
+    pub random: Vec<u16>,
+    pub gs: Vec<u16>,
+    pub hs: Vec<u16>,
+    /// The values that each holder receives, by receiver and then by sender.
+    pub values: Vec<u16>,
+}
+
+impl Deal {
+    fn new(s: Params, m: Vec<u16>, r: &mut Random) -> Deal {
+        let (l, d, n) = (s.l as usize, s.d(), s.n as usize);
+        let (secrets, random) = (r.elements(s.p, l * l), r.elements(s.p, d * d - l * l));
+        let (mut gs, mut hs) = (vec![0; n * d], vec![0; n * d]);
+        reference::deal_all(s, &m, &secrets, &random, &mut gs, &mut hs);
+        let values = (0..n * n).map(|k| reference::pair_value(s, &m, &gs[k % n * d..][..d], (k / n) as u16).values[0]).collect();
+        Deal { m, secrets, random, gs, hs, values }
+    }
+}
+
+pub struct World {
+    pub s: Params,
+    pub deals: Vec<Deal>,
+}
+
+impl World {
+    /// A dealing for each input. Its holders stand in another order each time, so that the matrix changes too.
+    pub fn new(p: u16, l: u16, e: u16, n: u16) -> World {
+        World::with(p, l, e, n, true)
+    }
+
+    pub fn with(p: u16, l: u16, e: u16, n: u16, turned: bool) -> World {
+        let s = Params { p, l, e, n };
+        let mut r = Random(p as u64);
+        let mut m = vec![0; s.entries()];
+        // Where the field has too few points, any matrix by which all holders determine the secrets.
+        if reference::points(s, &mut m).number != 0 {
+            while reference::determines(s, &m, everyone(s)).values[0] == 0 {
+                m = r.elements(p, s.entries());
+            }
+        }
+        let mut rows: Vec<Vec<u16>> = m.chunks(s.d()).map(|row| row.to_vec()).collect();
+        let deals = (0..TURN)
+            .map(|_| {
+                if turned {
+                    r.shuffle(&mut rows);
+                }
+                Deal::new(s, rows.concat(), &mut r)
+            })
+            .collect();
+        World { s, deals }
+    }
+
+    pub fn m(&self, k: usize) -> &[u16] {
+        &self.deals[k].m
+    }
+    pub fn g(&self, k: usize, i: usize) -> &[u16] {
+        &self.deals[k].gs[i * self.s.d()..][..self.s.d()]
+    }
+    pub fn h(&self, k: usize, i: usize) -> &[u16] {
+        &self.deals[k].hs[i * self.s.d()..][..self.s.d()]
+    }
+    pub fn values(&self, k: usize, i: usize) -> &[u16] {
+        &self.deals[k].values[i * self.s.n as usize..][..self.s.n as usize]
+    }
+    /// Shares of column b of dealing k, by rising holder.
+    pub fn shares(&self, k: usize, set: u32, b: usize) -> Vec<u16> {
+        members(set).map(|i| self.g(k, i)[b]).collect()
+    }
+    /// Sets of so many members, one for each input; if asked, such that determine the secrets.
+    pub fn sets(&self, members: usize, determining: bool) -> Vec<u32> {
+        let mut r = Random(members as u64);
+        (0..TURN)
+            .map(|k| loop {
+                let set = r.set(self.s.n, members);
+                if !determining || reference::determines(self.s, self.m(k), set).values[0] == 1 {
+                    return set;
+                }
+            })
+            .collect()
+    }
+}
+
+pub fn everyone(s: Params) -> u32 {
+    if s.n == 32 {
+        u32::MAX
+    } else {
+        (1 << s.n) - 1
+    }
+}
+
+pub fn members(set: u32) -> impl Iterator<Item = usize> {
+    (0..32).filter(move |i| set >> i & 1 == 1)
+}
+
+/// The board's setup, one matrix for all keys, and keys of bytes.
+pub fn board() -> World {
+    let mut w = World::with(257, 4, 3, 16, false);
+    let mut r = Random(9400);
+    for deal in &mut w.deals {
+        deal.secrets = r.elements(256, 16);
+        reference::deal_all(w.s, &deal.m, &deal.secrets, &deal.random, &mut deal.gs, &mut deal.hs);
+    }
+    w
+}
+
+pub fn file(w: &World, k: usize, holder: u16) -> Vec<u8> {
+    let s = w.s;
+    let mut bytes = vec![0; 10 + 2 * s.entries() + 6 + 4 * s.d()];
+    let (first, second) = bytes.split_at_mut(10 + 2 * s.entries());
+    reference::write_setup(s, w.m(k), first);
+    reference::write_dealing(s, 7, holder, w.g(k, holder as usize), w.h(k, holder as usize), second);
+    let mut records = vec![];
+    for j in 0..s.n {
+        let mut pair = vec![0; 10];
+        reference::write_pair_value(s, 7, j, holder, w.values(k, holder as usize)[j as usize], &mut pair);
+        records.push(pair);
+        let mut verdict = vec![0; 8];
+        reference::write_verdict(s, 7, j, 1, &mut verdict);
+        records.push(verdict);
+    }
+    Random(k as u64).shuffle(&mut records);
+    bytes.extend(records.concat());
+    bytes
+}

@@ -1,0 +1,98 @@
+//! The library's calls on slices, with the reference's parameters.
+
+use crate::raw::*;
+use reference::Params;
+
+pub fn points(s: Params, m: &mut [u16]) -> u16 {
+    unsafe { mavdrusek_points(s.p, s.l, s.e, s.n, m.as_mut_ptr(), m.len()) }
+}
+#[rustfmt::skip]
+pub fn deal(s: Params, m: &[u16], secrets: &[u16], random: &[u16], holder: u16, g: &mut [u16], h: &mut [u16]) -> u16 {
+    unsafe { mavdrusek_deal(s.p, s.l, s.e, s.n, m.as_ptr(), m.len(), secrets.as_ptr(), secrets.len(), random.as_ptr(), random.len(), holder,
+                            g.as_mut_ptr(), g.len(), h.as_mut_ptr(), h.len()) }
+}
+#[rustfmt::skip]
+pub fn deal_all(s: Params, m: &[u16], secrets: &[u16], random: &[u16], gs: &mut [u16], hs: &mut [u16]) -> u16 {
+    unsafe { mavdrusek_deal_all(s.p, s.l, s.e, s.n, m.as_ptr(), m.len(), secrets.as_ptr(), secrets.len(), random.as_ptr(), random.len(),
+                                gs.as_mut_ptr(), gs.len(), hs.as_mut_ptr(), hs.len()) }
+}
+pub fn pair_value(s: Params, m: &[u16], g: &[u16], to: u16, value: &mut u16) -> u16 {
+    unsafe { mavdrusek_pair_value(s.p, s.l, s.e, s.n, m.as_ptr(), m.len(), g.as_ptr(), g.len(), to, value) }
+}
+#[rustfmt::skip]
+pub fn judge(s: Params, m: &[u16], h: &[u16], values: &[u16], verdict: &mut u16, named: &mut u16) -> u16 {
+    unsafe { mavdrusek_judge(s.p, s.l, s.e, s.n, m.as_ptr(), m.len(), h.as_ptr(), h.len(), values.as_ptr(), values.len(), verdict, named) }
+}
+#[rustfmt::skip]
+pub fn outcome(s: Params, g: &[u16], verdicts: &[u16], shares: &mut [u16], kept: &mut u16, named: &mut u16) -> u16 {
+    unsafe { mavdrusek_outcome(s.p, s.l, s.e, s.n, g.as_ptr(), g.len(), verdicts.as_ptr(), verdicts.len(), shares.as_mut_ptr(),
+                               shares.len(), kept, named) }
+}
+#[rustfmt::skip]
+pub fn rehearse(s: Params, m: &[u16], gs: &[u16], hs: &[u16], found: &mut [u16; 3]) -> u16 {
+    let [fair, checker, sender] = found;
+    unsafe { mavdrusek_rehearse(s.p, s.l, s.e, s.n, m.as_ptr(), m.len(), gs.as_ptr(), gs.len(), hs.as_ptr(), hs.len(), fair, checker,
+                                sender) }
+}
+pub fn combine(p: u16, constants: &[u16], shares: &[u16], value: &mut u16) -> u16 {
+    unsafe { mavdrusek_combine(p, constants.as_ptr(), constants.len(), shares.as_ptr(), shares.len(), value) }
+}
+pub fn determines(s: Params, m: &[u16], set: u32, yes: &mut u16) -> u16 {
+    unsafe { mavdrusek_determines(s.p, s.l, s.e, s.n, m.as_ptr(), m.len(), set, yes) }
+}
+pub fn private(s: Params, m: &[u16], set: u32, yes: &mut u16) -> u16 {
+    unsafe { mavdrusek_private(s.p, s.l, s.e, s.n, m.as_ptr(), m.len(), set, yes) }
+}
+pub fn judge_set(s: Params, m: &[u16], set: u32, position: u16, out: &mut [u16], kind: &mut u16) -> u16 {
+    unsafe { mavdrusek_judge_set(s.p, s.l, s.e, s.n, m.as_ptr(), m.len(), set, position, out.as_mut_ptr(), out.len(), kind) }
+}
+#[rustfmt::skip]
+pub fn open(s: Params, m: &[u16], set: u32, shares: &[u16], secrets: &mut [u16], position: &mut u16) -> u16 {
+    unsafe { mavdrusek_open(s.p, s.l, s.e, s.n, m.as_ptr(), m.len(), set, shares.as_ptr(), shares.len(), secrets.as_mut_ptr(),
+                            secrets.len(), position) }
+}
+pub fn write_setup(s: Params, m: &[u16], out: &mut [u8]) -> u16 {
+    unsafe { mavdrusek_write_setup(s.p, s.l, s.e, s.n, m.as_ptr(), m.len(), out.as_mut_ptr(), out.len()) }
+}
+#[rustfmt::skip]
+pub fn write_dealing(s: Params, dealing: u16, holder: u16, g: &[u16], h: &[u16], out: &mut [u8]) -> u16 {
+    unsafe { mavdrusek_write_dealing(s.p, s.l, s.e, s.n, dealing, holder, g.as_ptr(), g.len(), h.as_ptr(), h.len(), out.as_mut_ptr(),
+                                     out.len()) }
+}
+pub fn write_pair_value(s: Params, dealing: u16, from: u16, to: u16, value: u16, out: &mut [u8]) -> u16 {
+    unsafe { mavdrusek_write_pair_value(s.p, s.l, s.e, s.n, dealing, from, to, value, out.as_mut_ptr(), out.len()) }
+}
+pub fn write_verdict(s: Params, dealing: u16, holder: u16, verdict: u16, out: &mut [u8]) -> u16 {
+    unsafe { mavdrusek_write_verdict(s.p, s.l, s.e, s.n, dealing, holder, verdict, out.as_mut_ptr(), out.len()) }
+}
+pub fn write_share(s: Params, dealing: u16, holder: u16, column: u16, value: u16, out: &mut [u8]) -> u16 {
+    unsafe { mavdrusek_write_share(s.p, s.l, s.e, s.n, dealing, holder, column, value, out.as_mut_ptr(), out.len()) }
+}
+pub fn read_setup_head(part: &[u8], x: &mut [u16; 4]) -> u16 {
+    let [p, l, e, n] = x;
+    unsafe { mavdrusek_read_setup_head(part.as_ptr(), part.len(), p, l, e, n) }
+}
+pub fn read_setup_matrix(part: &[u8], m: &mut [u16]) -> u16 {
+    unsafe { mavdrusek_read_setup_matrix(part.as_ptr(), part.len(), m.as_mut_ptr(), m.len()) }
+}
+#[rustfmt::skip]
+pub fn read_dealing(s: Params, part: &[u8], g: &mut [u16], h: &mut [u16], x: &mut [u16; 2]) -> u16 {
+    let [dealing, holder] = x;
+    unsafe { mavdrusek_read_dealing(s.p, s.l, s.e, s.n, part.as_ptr(), part.len(), g.as_mut_ptr(), g.len(), h.as_mut_ptr(), h.len(),
+                                    dealing, holder) }
+}
+pub fn read_pair_value(s: Params, part: &[u8], x: &mut [u16; 4]) -> u16 {
+    let [dealing, from, to, value] = x;
+    unsafe { mavdrusek_read_pair_value(s.p, s.l, s.e, s.n, part.as_ptr(), part.len(), dealing, from, to, value) }
+}
+pub fn read_verdict(s: Params, part: &[u8], x: &mut [u16; 3]) -> u16 {
+    let [dealing, holder, verdict] = x;
+    unsafe { mavdrusek_read_verdict(s.p, s.l, s.e, s.n, part.as_ptr(), part.len(), dealing, holder, verdict) }
+}
+pub fn read_share(s: Params, part: &[u8], x: &mut [u16; 4]) -> u16 {
+    let [dealing, holder, column, value] = x;
+    unsafe { mavdrusek_read_share(s.p, s.l, s.e, s.n, part.as_ptr(), part.len(), dealing, holder, column, value) }
+}
+pub fn holder_file(file: &[u8], out: &mut [u8], count: &mut usize) -> u16 {
+    unsafe { mavdrusek_holder_file(file.as_ptr(), file.len(), out.as_mut_ptr(), out.len(), count) }
+}

@@ -1,0 +1,185 @@
+//! The calls on records and on a holder's file against the same calls of the reference.
+
+use crate::inputs::*;
+use crate::measure::*;
+use crate::{ours, TURN};
+use reference::Answer;
+
+pub fn records(t: &mut Table, w: &World) {
+    let s = w.s;
+    let (l, d, n) = (s.l as usize, s.d(), s.n as usize);
+    let name = |call: &str| format!("{call} p {}", s.p);
+    let holder = |k: usize| (k * 7 % n) as u16;
+    let dealing = |k: usize| 1 + 4095 * k as u16;
+    let (mut x, mut y) = (vec![0u8; 10 + 2 * n * d], vec![0u8; 10 + 2 * n * d]);
+
+    // Each writer's records are kept for its reader.
+    let made = |size: usize, write: &dyn Fn(usize, &mut [u8]) -> Answer| -> Vec<Vec<u8>> {
+        (0..TURN)
+            .map(|k| {
+                let mut out = vec![0; size];
+                assert_eq!(write(k, &mut out).number, 0);
+                out
+            })
+            .collect()
+    };
+
+    t.line(
+        &name("write_setup"),
+        |k, look| {
+            let r = ours::write_setup(s, w.m(k), &mut x);
+            give(look, || digest(r, &wide(&x)), r)
+        },
+        |k, look| {
+            let r = reference::write_setup(s, w.m(k), &mut y);
+            give(look, || of(&r, &wide(&y)), r.number)
+        },
+    );
+    let written = made(10 + 2 * n * d, &|k, out| reference::write_setup(s, w.m(k), out));
+    let mut four = [0; 4];
+    t.line(
+        &name("read_setup_head"),
+        |k, look| {
+            let r = ours::read_setup_head(&written[k], &mut four);
+            give(look, || digest(r, &four), r)
+        },
+        |k, look| {
+            let r = reference::read_setup_head(&written[k]);
+            give(look, || of(&r, &[]), r.number)
+        },
+    );
+    let (mut a, mut b) = (vec![0u16; n * d], vec![0u16; n * d]);
+    let (mut c, mut e) = (vec![0u16; d], vec![0u16; d]);
+    t.line(
+        &name("read_setup_matrix"),
+        |k, look| {
+            let r = ours::read_setup_matrix(&written[k], &mut a);
+            give(look, || digest(r, &a), r)
+        },
+        |k, look| {
+            let r = reference::read_setup_matrix(&written[k], &mut b);
+            give(look, || of(&r, &b), r.number)
+        },
+    );
+
+    let size = 6 + 4 * d;
+    let part = |k: usize| (w.g(k, holder(k) as usize), w.h(k, holder(k) as usize));
+    t.line(
+        &name("write_dealing"),
+        |k, look| {
+            let (g, h) = part(k);
+            let r = ours::write_dealing(s, dealing(k), holder(k), g, h, &mut x[..size]);
+            give(look, || digest(r, &wide(&x[..size])), r)
+        },
+        |k, look| {
+            let (g, h) = part(k);
+            let r = reference::write_dealing(s, dealing(k), holder(k), g, h, &mut y[..size]);
+            give(look, || of(&r, &wide(&y[..size])), r.number)
+        },
+    );
+    let written = made(size, &|k, out| reference::write_dealing(s, dealing(k), holder(k), part(k).0, part(k).1, out));
+    let mut two = [0; 2];
+    t.line(
+        &name("read_dealing"),
+        |k, look| {
+            let r = ours::read_dealing(s, &written[k], &mut a[..d], &mut c, &mut two);
+            give(look, || digest(r, &[&two[..], &a[..d], &c].concat()), r)
+        },
+        |k, look| {
+            let r = reference::read_dealing(s, &written[k], &mut b[..d], &mut e);
+            give(look, || of(&r, &[&b[..d], &e].concat()), r.number)
+        },
+    );
+
+    let value = |k: usize| w.values(k, holder(k) as usize)[k % n];
+    t.line(
+        &name("write_pair_value"),
+        |k, look| {
+            let r = ours::write_pair_value(s, dealing(k), (k % n) as u16, holder(k), value(k), &mut x[..10]);
+            give(look, || digest(r, &wide(&x[..10])), r)
+        },
+        |k, look| {
+            let r = reference::write_pair_value(s, dealing(k), (k % n) as u16, holder(k), value(k), &mut y[..10]);
+            give(look, || of(&r, &wide(&y[..10])), r.number)
+        },
+    );
+    let written = made(10, &|k, out| reference::write_pair_value(s, dealing(k), (k % n) as u16, holder(k), value(k), out));
+    t.line(
+        &name("read_pair_value"),
+        |k, look| {
+            let r = ours::read_pair_value(s, &written[k], &mut four);
+            give(look, || digest(r, &four), r)
+        },
+        |k, look| {
+            let r = reference::read_pair_value(s, &written[k]);
+            give(look, || of(&r, &[]), r.number)
+        },
+    );
+
+    let verdict = |k: usize| (k % 3 > 0) as u16;
+    t.line(
+        &name("write_verdict"),
+        |k, look| {
+            let r = ours::write_verdict(s, dealing(k), holder(k), verdict(k), &mut x[..8]);
+            give(look, || digest(r, &wide(&x[..8])), r)
+        },
+        |k, look| {
+            let r = reference::write_verdict(s, dealing(k), holder(k), verdict(k), &mut y[..8]);
+            give(look, || of(&r, &wide(&y[..8])), r.number)
+        },
+    );
+    let written = made(8, &|k, out| reference::write_verdict(s, dealing(k), holder(k), verdict(k), out));
+    let mut three = [0; 3];
+    t.line(
+        &name("read_verdict"),
+        |k, look| {
+            let r = ours::read_verdict(s, &written[k], &mut three);
+            give(look, || digest(r, &three), r)
+        },
+        |k, look| {
+            let r = reference::read_verdict(s, &written[k]);
+            give(look, || of(&r, &[]), r.number)
+        },
+    );
+
+    let share = |k: usize| w.g(k, holder(k) as usize)[k % l];
+    t.line(
+        &name("write_share"),
+        |k, look| {
+            let r = ours::write_share(s, dealing(k), holder(k), (k % l) as u16, share(k), &mut x[..10]);
+            give(look, || digest(r, &wide(&x[..10])), r)
+        },
+        |k, look| {
+            let r = reference::write_share(s, dealing(k), holder(k), (k % l) as u16, share(k), &mut y[..10]);
+            give(look, || of(&r, &wide(&y[..10])), r.number)
+        },
+    );
+    let written = made(10, &|k, out| reference::write_share(s, dealing(k), holder(k), (k % l) as u16, share(k), out));
+    t.line(
+        &name("read_share"),
+        |k, look| {
+            let r = ours::read_share(s, &written[k], &mut four);
+            give(look, || digest(r, &four), r)
+        },
+        |k, look| {
+            let r = reference::read_share(s, &written[k]);
+            give(look, || of(&r, &[]), r.number)
+        },
+    );
+
+    // Sound files of accepted dealings, each with its PV and VD in another order.
+    let files: Vec<Vec<u8>> = (0..TURN).map(|k| file(w, k, holder(k))).collect();
+    let (mut out, mut other) = ([0u8; 256], [0u8; 256]);
+    let mut count = 0;
+    t.line(
+        &name("holder_file"),
+        |k, look| {
+            let r = ours::holder_file(&files[k], &mut out, &mut count);
+            give(look, || digest(r, &[&[count as u16][..], &wide(&out[..count])].concat()), r)
+        },
+        |k, look| {
+            let r = reference::holder_file(&files[k], &mut other);
+            give(look, || of(&r, &wide(&other[..r.values[0] as usize])), r.number)
+        },
+    );
+}

@@ -1,0 +1,119 @@
+/* Calls that work on secrets, run under valgrind by bench/secrets:
+ *   secrets draw P SEED                     writes secret entries below P (seed 0: all 0; seed 1: all P - 1; seed 99: the first is P, to be refused)
+ *   secrets CALL P L E N UNDEFINED          reads them and makes the call, with so many low bits of each entry marked undefined
+ * The calls `branching` and `indexing` leak on purpose: bench/secrets must notice both. */
+#include <stdint.h>
+#include <stdio.h>
+#include <stdlib.h>
+#include <string.h>
+#include <valgrind/memcheck.h>
+
+#include "mavdrusek.h"
+
+#define MOST 512
+
+static uint16_t secret[MOST], matrix[MOST], gs[MOST], hs[MOST], value;
+
+static struct { uint16_t p, l, e, n, d; } s;
+
+#define SETUP s.p, s.l, s.e, s.n
+#define ENTRIES ((size_t)s.n * s.d)
+
+/* Each call on the secret entries; matrix, setup and holders are public. It must not be refused. */
+static uint16_t deal(void)
+{
+    size_t keys = (size_t)s.l * s.l, random = (size_t)s.d * s.d - keys;
+    uint16_t refused = 0;
+    for (uint16_t i = 0; i < s.n; i++)
+        refused |= mavdrusek_deal(SETUP, matrix, ENTRIES, secret, keys, secret + keys, random, i, gs, s.d, hs, s.d);
+    return refused;
+}
+
+static uint16_t deal_all(void)
+{
+    size_t keys = (size_t)s.l * s.l, random = (size_t)s.d * s.d - keys;
+    return mavdrusek_deal_all(SETUP, matrix, ENTRIES, secret, keys, secret + keys, random, gs, ENTRIES, hs, ENTRIES);
+}
+
+static uint16_t pair_value(void)
+{
+    uint16_t refused = 0;
+    for (uint16_t i = 0; i < s.n; i++)
+        refused |= mavdrusek_pair_value(SETUP, matrix, ENTRIES, secret, s.d, i, &value);
+    return refused;
+}
+
+static uint16_t combine(void)
+{
+    uint16_t refused = 0;
+    for (size_t terms = 1; terms <= 64; terms++)
+        refused |= mavdrusek_combine(s.p, secret, terms, secret + 64, terms, &value);
+    return refused;
+}
+
+static uint16_t branching(void)
+{
+    volatile uint16_t sum = 0;
+    if (secret[0] % 2 == 1)
+        sum = sum + 1;
+    return 0;
+}
+
+static uint16_t indexing(void)
+{
+    static volatile uint16_t table[1 << 16];
+    value = table[secret[0]];
+    return 0;
+}
+
+static const struct { const char *name; uint16_t (*run)(void); } calls[] = {
+    {"deal", deal}, {"deal_all", deal_all}, {"pair_value", pair_value}, {"combine", combine}, {"branching", branching}, {"indexing", indexing},
+};
+
+static void draw(uint16_t p, uint64_t seed)
+{
+    uint64_t state = seed;
+    for (int k = 0; k < MOST; k++) {
+        state = state * 6364136223846793005u + 1442695040888963407u;
+        secret[k] = seed == 0 ? 0 : seed == 1 ? p - 1 : (uint16_t)((state >> 33) % p);
+    }
+    if (seed == 99)
+        secret[0] = p;
+    fwrite(secret, 2, MOST, stdout);
+}
+
+/* Marks the low bits undefined. Whatever they are, the entry is below p: whether an entry is refused is no secret. */
+static void mark(unsigned low)
+{
+    static uint16_t bits[MOST];
+    for (int k = 0; k < MOST; k++) {
+        bits[k] = (uint16_t)((1u << low) - 1);
+        secret[k] &= bits[k];
+    }
+    (void)VALGRIND_SET_VBITS(secret, bits, sizeof secret);
+}
+
+int main(int count, char **words)
+{
+    if (count == 4 && strcmp(words[1], "draw") == 0) {
+        draw((uint16_t)atoi(words[2]), (uint64_t)atoi(words[3]));
+        return 0;
+    }
+    if (count != 7 || fread(secret, 2, MOST, stdin) != MOST)
+        return 2;
+    s.p = (uint16_t)atoi(words[2]), s.l = (uint16_t)atoi(words[3]), s.e = (uint16_t)atoi(words[4]), s.n = (uint16_t)atoi(words[5]);
+    s.d = s.l + s.e;
+    for (size_t k = 0; k < ENTRIES; k++)
+        matrix[k] = (uint16_t)((k * k + 3 * k + 1) % s.p);
+    if (atoi(words[6]) > 0)
+        mark((unsigned)atoi(words[6]));
+    for (size_t k = 0; k < sizeof calls / sizeof *calls; k++)
+        if (strcmp(words[1], calls[k].name) == 0) {
+            VALGRIND_PRINTF("call begins\n");
+            uint16_t refused = calls[k].run();
+            VALGRIND_PRINTF("call ends\n");
+            (void)VALGRIND_MAKE_MEM_DEFINED(&refused, sizeof refused);
+            return refused != 0;
+        }
+    return 2;
+}

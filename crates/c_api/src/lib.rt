@@ -1,0 +1,647 @@
+// Every call, exported for C and Rust. A setup is passed as its four numbers with its matrix beside them, a slice as a pointer and a length. Each
+// function returns 0 or document 01's number of the refusal; values of the answer go into lent places, which a refusal leaves as they were.
+ghost use mathlib.Core.Path.{_≡_};
+ghost use mathlib.Core.List.{[]};
+ghost use Rattle.field.specs.Fields.{fieldAnswer};
+ghost use Rattle.scheme.specs.Calls.{pointsCall, pointsLeft, dealCall, dealLeftG, dealLeftH, dealAllCall, dealAllLeftG, dealAllLeftH};
+ghost use Rattle.scheme.specs.Calls.{pairValueCall, judgeCall, outcomeCall, outcomeLeft, rehearseCall, combineCall};
+ghost use Rattle.scheme.specs.Calls.{determinesCall, privateCall, judgeSetCall, openCall, openLeft};
+ghost use Rattle.records.specs.Records.{writeSetupCall, writeSetupLeft, writeDealingCall, writeDealingLeft, writePairCall, writePairLeft};
+ghost use Rattle.records.specs.Records.{writeVerdictCall, writeVerdictLeft, writeShareCall, writeShareLeft};
+ghost use Rattle.records.specs.Records.{readSetupCall, readMatrixCall, readMatrixLeft, readDealingCall, readDealingLeftG, readDealingLeftH};
+ghost use Rattle.records.specs.Records.{readPairCall, readVerdictCall, readShareCall};
+ghost use Rattle.holder_file.specs.File.{holderFileCall, holderFileLeft};
+ghost use Rattle.judging_sets.specs.Contracts.{SetBuffer};
+ghost use Rattle.c_api.specs.Exported.{setup, place};
+use field::Chosen;
+use field::Field;
+use holder_file::Printing;
+use records::DealingRead;
+use records::DealingRecord;
+use records::PairRead;
+use records::PairRecord;
+use records::SetupRead;
+use records::ShareRead;
+use records::ShareRecord;
+use records::VerdictRead;
+use records::VerdictRecord;
+use scheme::Decided;
+use scheme::Fate;
+use scheme::Judged;
+use scheme::Judgement;
+use scheme::Opened;
+use scheme::Params;
+use scheme::Rehearsal;
+use scheme::SetJudged;
+use scheme::Settled;
+use scheme::Value;
+
+// Whether there is a field of p elements.
+#[no_mangle]
+pub extern "C" fn mavdrusek_field(p: u16) -> u16
+    ensures { λ r. ⌜ r ≡ fieldAnswer p .number ⌝ }
+{
+    match Field::new(p) {
+        Chosen::Of(_) => 0,
+        Chosen::NoField => 1,
+    }
+}
+
+// DEALING
+// The points matrix into the lent matrix.
+#[no_mangle]
+pub extern "C" fn mavdrusek_points(p: u16, l: u16, e: u16, n: u16, matrix: &mut [u16]) -> u16
+    ensures answer { λ r. ⌜ r ≡ pointsCall (setup p l e n (now (matrix .entry))) .number ⌝ }
+    ensures buffer { λ r. ⌜ now (matrix .exit) ≡ pointsLeft (setup p l e n (now (matrix .entry))) ⌝ }
+{
+    scheme::declined(dealing::points(Params { p, l, e, n }, matrix))
+}
+
+// One holder's part of a dealing.
+#[no_mangle]
+pub extern "C" fn mavdrusek_deal(
+    p: u16,
+    l: u16,
+    e: u16,
+    n: u16,
+    matrix: &[u16],
+    secrets: &[u16],
+    random: &[u16],
+    holder: u16,
+    g: &mut [u16],
+    h: &mut [u16],
+) -> u16
+    ensures answer { λ r. ⌜ r ≡ dealCall (setup p l e n (now (matrix .entry))) (now (secrets .entry)) (now (random .entry)) holder (now (g .entry)) (now (h .entry)) .number ⌝ }
+    ensures row { λ r. ⌜ now (g .exit) ≡ dealLeftG (setup p l e n (now (matrix .entry))) (now (secrets .entry)) (now (random .entry)) holder (now (g .entry)) (now (h .entry)) ⌝ }
+    ensures column { λ r. ⌜ now (h .exit) ≡ dealLeftH (setup p l e n (now (matrix .entry))) (now (secrets .entry)) (now (random .entry)) holder (now (g .entry)) (now (h .entry)) ⌝ }
+{
+    let s = Params { p, l, e, n };
+    scheme::declined(dealing::deal(s, matrix, secrets, random, holder, g, h))
+}
+
+// Every holder's part of a dealing.
+#[no_mangle]
+pub extern "C" fn mavdrusek_deal_all(
+    p: u16,
+    l: u16,
+    e: u16,
+    n: u16,
+    matrix: &[u16],
+    secrets: &[u16],
+    random: &[u16],
+    gs: &mut [u16],
+    hs: &mut [u16],
+) -> u16
+    ensures answer { λ r. ⌜ r ≡ dealAllCall (setup p l e n (now (matrix .entry))) (now (secrets .entry)) (now (random .entry)) (now (gs .entry)) (now (hs .entry)) .number ⌝ }
+    ensures rows { λ r. ⌜ now (gs .exit) ≡ dealAllLeftG (setup p l e n (now (matrix .entry))) (now (secrets .entry)) (now (random .entry)) (now (gs .entry)) (now (hs .entry)) ⌝ }
+    ensures columns { λ r. ⌜ now (hs .exit) ≡ dealAllLeftH (setup p l e n (now (matrix .entry))) (now (secrets .entry)) (now (random .entry)) (now (gs .entry)) (now (hs .entry)) ⌝ }
+{
+    let s = Params { p, l, e, n };
+    scheme::declined(dealing::deal_all(s, matrix, secrets, random, gs, hs))
+}
+
+// JUDGING
+// The pair value, for holder `to`, of the holder whose row part is g.
+#[no_mangle]
+pub extern "C" fn mavdrusek_pair_value(
+    p: u16,
+    l: u16,
+    e: u16,
+    n: u16,
+    matrix: &[u16],
+    g: &[u16],
+    to: u16,
+    value: &mut u16,
+) -> u16
+    ensures answer { λ r. ⌜ r ≡ pairValueCall (setup p l e n (now (matrix .entry))) (now (g .entry)) to .number ⌝ }
+    ensures value { λ r. ⌜ now (value .exit) ≡ place 0 (pairValueCall (setup p l e n (now (matrix .entry))) (now (g .entry)) to) (now (value .entry)) ⌝ }
+{
+    match judging::pair_value(Params { p, l, e, n }, matrix, g, to) {
+        Value::Is(x) => {
+            *value = x;
+            0
+        }
+        Value::Refused(k) => k,
+    }
+}
+
+// A holder's judgement: verdict 1 accepts; 0 rejects, and names the lowest holder whose value differs.
+#[no_mangle]
+pub extern "C" fn mavdrusek_judge(
+    p: u16,
+    l: u16,
+    e: u16,
+    n: u16,
+    matrix: &[u16],
+    h: &[u16],
+    values: &[u16],
+    verdict: &mut u16,
+    named: &mut u16,
+) -> u16
+    ensures answer { λ r. ⌜ r ≡ judgeCall (setup p l e n (now (matrix .entry))) (now (h .entry)) (now (values .entry)) .number ⌝ }
+    ensures verdict { λ r. ⌜ now (verdict .exit) ≡ place 0 (judgeCall (setup p l e n (now (matrix .entry))) (now (h .entry)) (now (values .entry))) (now (verdict .entry)) ⌝ }
+    ensures named { λ r. ⌜ now (named .exit) ≡ place 1 (judgeCall (setup p l e n (now (matrix .entry))) (now (h .entry)) (now (values .entry))) (now (named .entry)) ⌝ }
+{
+    match judging::judge(Params { p, l, e, n }, matrix, h, values) {
+        Judged::As(j) => match j {
+            Judgement::Accept => {
+                *verdict = 1;
+                0
+            }
+            Judgement::Reject(i) => {
+                *verdict = 0;
+                *named = i;
+                0
+            }
+        },
+        Judged::Refused(k) => k,
+    }
+}
+
+// The outcome: kept 1, with the shares written; 0 where it is aborted, and the lowest holder that said reject is named.
+#[no_mangle]
+pub extern "C" fn mavdrusek_outcome(
+    p: u16,
+    l: u16,
+    e: u16,
+    n: u16,
+    g: &[u16],
+    verdicts: &[u16],
+    shares: &mut [u16],
+    kept: &mut u16,
+    named: &mut u16,
+) -> u16
+    ensures answer { λ r. ⌜ r ≡ outcomeCall (setup p l e n []) (now (g .entry)) (now (verdicts .entry)) (now (shares .entry)) .number ⌝ }
+    ensures kept { λ r. ⌜ now (kept .exit) ≡ place 0 (outcomeCall (setup p l e n []) (now (g .entry)) (now (verdicts .entry)) (now (shares .entry))) (now (kept .entry)) ⌝ }
+    ensures named { λ r. ⌜ now (named .exit) ≡ place 1 (outcomeCall (setup p l e n []) (now (g .entry)) (now (verdicts .entry)) (now (shares .entry))) (now (named .entry)) ⌝ }
+    ensures left { λ r. ⌜ now (shares .exit) ≡ outcomeLeft (setup p l e n []) (now (g .entry)) (now (verdicts .entry)) (now (shares .entry)) ⌝ }
+{
+    match judging::outcome(Params { p, l, e, n }, g, verdicts, shares) {
+        Settled::As(f) => match f {
+            Fate::Kept => {
+                *kept = 1;
+                0
+            }
+            Fate::Aborted(i) => {
+                *kept = 0;
+                *named = i;
+                0
+            }
+        },
+        Settled::Refused(k) => k,
+    }
+}
+
+// The dealer's rehearsal: fair 1; 0 and the first pair that disagrees, where `checker` checks the value of `sender`.
+#[no_mangle]
+pub extern "C" fn mavdrusek_rehearse(
+    p: u16,
+    l: u16,
+    e: u16,
+    n: u16,
+    matrix: &[u16],
+    gs: &[u16],
+    hs: &[u16],
+    fair: &mut u16,
+    checker: &mut u16,
+    sender: &mut u16,
+) -> u16
+    ensures answer { λ r. ⌜ r ≡ rehearseCall (setup p l e n (now (matrix .entry))) (now (gs .entry)) (now (hs .entry)) .number ⌝ }
+    ensures fair { λ r. ⌜ now (fair .exit) ≡ place 0 (rehearseCall (setup p l e n (now (matrix .entry))) (now (gs .entry)) (now (hs .entry))) (now (fair .entry)) ⌝ }
+    ensures checker { λ r. ⌜ now (checker .exit) ≡ place 1 (rehearseCall (setup p l e n (now (matrix .entry))) (now (gs .entry)) (now (hs .entry))) (now (checker .entry)) ⌝ }
+    ensures sender { λ r. ⌜ now (sender .exit) ≡ place 2 (rehearseCall (setup p l e n (now (matrix .entry))) (now (gs .entry)) (now (hs .entry))) (now (sender .entry)) ⌝ }
+{
+    match judging::rehearse(Params { p, l, e, n }, matrix, gs, hs) {
+        Rehearsal::Fair => {
+            *fair = 1;
+            0
+        }
+        Rehearsal::Disagree(i, j) => {
+            *fair = 0;
+            *checker = i;
+            *sender = j;
+            0
+        }
+        Rehearsal::Refused(k) => k,
+    }
+}
+
+// The sum of the products of constants and one holder's shares.
+#[no_mangle]
+pub extern "C" fn mavdrusek_combine(
+    p: u16,
+    constants: &[u16],
+    shares: &[u16],
+    value: &mut u16,
+) -> u16
+    ensures answer { λ r. ⌜ r ≡ combineCall p (now (constants .entry)) (now (shares .entry)) .number ⌝ }
+    ensures value { λ r. ⌜ now (value .exit) ≡ place 0 (combineCall p (now (constants .entry)) (now (shares .entry))) (now (value .entry)) ⌝ }
+{
+    match judging::combine(p, constants, shares) {
+        Value::Is(x) => {
+            *value = x;
+            0
+        }
+        Value::Refused(k) => k,
+    }
+}
+
+// SETS AND OPENINGS
+// Whether a set determines the secrets: 1 or 0.
+#[no_mangle]
+pub extern "C" fn mavdrusek_determines(
+    p: u16,
+    l: u16,
+    e: u16,
+    n: u16,
+    matrix: &[u16],
+    set: u32,
+    yes: &mut u16,
+) -> u16
+    ensures answer { λ r. ⌜ r ≡ determinesCall (setup p l e n (now (matrix .entry))) set .number ⌝ }
+    ensures yes { λ r. ⌜ now (yes .exit) ≡ place 0 (determinesCall (setup p l e n (now (matrix .entry))) set) (now (yes .entry)) ⌝ }
+{
+    match opening::determines(Params { p, l, e, n }, matrix, set) {
+        Decided::Yes => {
+            *yes = 1;
+            0
+        }
+        Decided::No => {
+            *yes = 0;
+            0
+        }
+        Decided::Refused(k) => k,
+    }
+}
+
+// Whether a set is called private: 1 or 0.
+#[no_mangle]
+pub extern "C" fn mavdrusek_private(
+    p: u16,
+    l: u16,
+    e: u16,
+    n: u16,
+    matrix: &[u16],
+    set: u32,
+    yes: &mut u16,
+) -> u16
+    ensures answer { λ r. ⌜ r ≡ privateCall (setup p l e n (now (matrix .entry))) set .number ⌝ }
+    ensures yes { λ r. ⌜ now (yes .exit) ≡ place 0 (privateCall (setup p l e n (now (matrix .entry))) set) (now (yes .entry)) ⌝ }
+{
+    match sets::private(Params { p, l, e, n }, matrix, set) {
+        Decided::Yes => {
+            *yes = 1;
+            0
+        }
+        Decided::No => {
+            *yes = 0;
+            0
+        }
+        Decided::Refused(k) => k,
+    }
+}
+
+// The judgement of a set at a position: kind 1 for a row, 2 for a vector, 0 for neither; one of the kind into 32 lent entries.
+#[no_mangle]
+pub extern "C" fn mavdrusek_judge_set(
+    p: u16,
+    l: u16,
+    e: u16,
+    n: u16,
+    matrix: &[u16],
+    set: u32,
+    position: u16,
+    out: &mut [u16],
+    kind: &mut u16,
+) -> u16
+    ensures answer { λ r. ⌜ r ≡ judgeSetCall (setup p l e n (now (matrix .entry))) set position (now (out .entry)) .number ⌝ }
+    ensures kind { λ r. ⌜ now (kind .exit) ≡ place 0 (judgeSetCall (setup p l e n (now (matrix .entry))) set position (now (out .entry))) (now (kind .entry)) ⌝ }
+    ensures buffer { λ r. ⌜ SetBuffer (setup p l e n (now (matrix .entry))) set position (now (out .entry)) (judgeSetCall (setup p l e n (now (matrix .entry))) set position (now (out .entry))) (now (out .exit)) ⌝ }
+{
+    match judging_sets::judge_set(Params { p, l, e, n }, matrix, set, position, out) {
+        SetJudged::Row => {
+            *kind = 1;
+            0
+        }
+        SetJudged::Vector => {
+            *kind = 2;
+            0
+        }
+        SetJudged::Neither => {
+            *kind = 0;
+            0
+        }
+        SetJudged::Refused(k) => k,
+    }
+}
+
+// Opens the shares of a set, by rising holder; refusal 6 gives the lowest position with no row.
+#[no_mangle]
+pub extern "C" fn mavdrusek_open(
+    p: u16,
+    l: u16,
+    e: u16,
+    n: u16,
+    matrix: &[u16],
+    set: u32,
+    shares: &[u16],
+    secrets: &mut [u16],
+    position: &mut u16,
+) -> u16
+    ensures answer { λ r. ⌜ r ≡ openCall (setup p l e n (now (matrix .entry))) set (now (shares .entry)) (now (secrets .entry)) .number ⌝ }
+    ensures position { λ r. ⌜ now (position .exit) ≡ place 0 (openCall (setup p l e n (now (matrix .entry))) set (now (shares .entry)) (now (secrets .entry))) (now (position .entry)) ⌝ }
+    ensures left { λ r. ⌜ now (secrets .exit) ≡ openLeft (setup p l e n (now (matrix .entry))) set (now (shares .entry)) (now (secrets .entry)) ⌝ }
+{
+    match opening::open(Params { p, l, e, n }, matrix, set, shares, secrets) {
+        Opened::Secrets => 0,
+        Opened::Undetermined(q) => {
+            *position = q;
+            6
+        }
+        Opened::Inconsistent => 7,
+        Opened::Refused(k) => k,
+    }
+}
+
+// WRITING RECORDS
+// Writes an SU.
+#[no_mangle]
+pub extern "C" fn mavdrusek_write_setup(
+    p: u16,
+    l: u16,
+    e: u16,
+    n: u16,
+    matrix: &[u16],
+    out: &mut [u8],
+) -> u16
+    ensures answer { λ r. ⌜ r ≡ writeSetupCall (setup p l e n (now (matrix .entry))) (now (out .entry)) .number ⌝ }
+    ensures buffer { λ r. ⌜ now (out .exit) ≡ writeSetupLeft (setup p l e n (now (matrix .entry))) (now (out .entry)) ⌝ }
+{
+    scheme::declined(writing::write_setup(Params { p, l, e, n }, matrix, out))
+}
+
+// Writes a DL.
+#[no_mangle]
+pub extern "C" fn mavdrusek_write_dealing(
+    p: u16,
+    l: u16,
+    e: u16,
+    n: u16,
+    dealing: u16,
+    holder: u16,
+    g: &[u16],
+    h: &[u16],
+    out: &mut [u8],
+) -> u16
+    ensures answer { λ r. ⌜ r ≡ writeDealingCall (setup p l e n []) (record { dealing = dealing; holder = holder }) (now (g .entry)) (now (h .entry)) (now (out .entry)) .number ⌝ }
+    ensures buffer { λ r. ⌜ now (out .exit) ≡ writeDealingLeft (setup p l e n []) (record { dealing = dealing; holder = holder }) (now (g .entry)) (now (h .entry)) (now (out .entry)) ⌝ }
+{
+    let s = Params { p, l, e, n };
+    scheme::declined(writing::write_dealing(s, DealingRecord { dealing, holder }, g, h, out))
+}
+
+// Writes a PV.
+#[no_mangle]
+pub extern "C" fn mavdrusek_write_pair_value(
+    p: u16,
+    l: u16,
+    e: u16,
+    n: u16,
+    dealing: u16,
+    sender: u16,
+    receiver: u16,
+    value: u16,
+    out: &mut [u8],
+) -> u16
+    ensures answer { λ r. ⌜ r ≡ writePairCall (setup p l e n []) (record { dealing = dealing; sender = sender; receiver = receiver; value = value }) (now (out .entry)) .number ⌝ }
+    ensures buffer { λ r. ⌜ now (out .exit) ≡ writePairLeft (setup p l e n []) (record { dealing = dealing; sender = sender; receiver = receiver; value = value }) (now (out .entry)) ⌝ }
+{
+    let x = PairRecord {
+        dealing,
+        sender,
+        receiver,
+        value,
+    };
+    scheme::declined(writing::write_pair_value(Params { p, l, e, n }, x, out))
+}
+
+// Writes a VD.
+#[no_mangle]
+pub extern "C" fn mavdrusek_write_verdict(
+    p: u16,
+    l: u16,
+    e: u16,
+    n: u16,
+    dealing: u16,
+    holder: u16,
+    verdict: u16,
+    out: &mut [u8],
+) -> u16
+    ensures answer { λ r. ⌜ r ≡ writeVerdictCall (setup p l e n []) (record { dealing = dealing; holder = holder; verdict = verdict }) (now (out .entry)) .number ⌝ }
+    ensures buffer { λ r. ⌜ now (out .exit) ≡ writeVerdictLeft (setup p l e n []) (record { dealing = dealing; holder = holder; verdict = verdict }) (now (out .entry)) ⌝ }
+{
+    let x = VerdictRecord {
+        dealing,
+        holder,
+        verdict,
+    };
+    scheme::declined(writing::write_verdict(Params { p, l, e, n }, x, out))
+}
+
+// Writes an SH.
+#[no_mangle]
+pub extern "C" fn mavdrusek_write_share(
+    p: u16,
+    l: u16,
+    e: u16,
+    n: u16,
+    dealing: u16,
+    holder: u16,
+    column: u16,
+    value: u16,
+    out: &mut [u8],
+) -> u16
+    ensures answer { λ r. ⌜ r ≡ writeShareCall (setup p l e n []) (record { dealing = dealing; holder = holder; column = column; value = value }) (now (out .entry)) .number ⌝ }
+    ensures buffer { λ r. ⌜ now (out .exit) ≡ writeShareLeft (setup p l e n []) (record { dealing = dealing; holder = holder; column = column; value = value }) (now (out .entry)) ⌝ }
+{
+    let x = ShareRecord {
+        dealing,
+        holder,
+        column,
+        value,
+    };
+    scheme::declined(writing::write_share(Params { p, l, e, n }, x, out))
+}
+
+// READING RECORDS
+// Reads the four numbers of an SU.
+#[no_mangle]
+pub extern "C" fn mavdrusek_read_setup_head(
+    part: &[u8],
+    p: &mut u16,
+    l: &mut u16,
+    e: &mut u16,
+    n: &mut u16,
+) -> u16
+    ensures answer { λ r. ⌜ r ≡ readSetupCall (now (part .entry)) .number ⌝ }
+    ensures p { λ r. ⌜ now (p .exit) ≡ place 0 (readSetupCall (now (part .entry))) (now (p .entry)) ⌝ }
+    ensures l { λ r. ⌜ now (l .exit) ≡ place 1 (readSetupCall (now (part .entry))) (now (l .entry)) ⌝ }
+    ensures e { λ r. ⌜ now (e .exit) ≡ place 2 (readSetupCall (now (part .entry))) (now (e .entry)) ⌝ }
+    ensures n { λ r. ⌜ now (n .exit) ≡ place 3 (readSetupCall (now (part .entry))) (now (n .entry)) ⌝ }
+{
+    match reading::read_setup_head(part) {
+        SetupRead::Is(s) => {
+            *p = s.p;
+            *l = s.l;
+            *e = s.e;
+            *n = s.n;
+            0
+        }
+        SetupRead::Refused(k) => k,
+    }
+}
+
+// Reads the matrix of an SU.
+#[no_mangle]
+pub extern "C" fn mavdrusek_read_setup_matrix(part: &[u8], matrix: &mut [u16]) -> u16
+    ensures answer { λ r. ⌜ r ≡ readMatrixCall (now (part .entry)) (now (matrix .entry)) .number ⌝ }
+    ensures buffer { λ r. ⌜ now (matrix .exit) ≡ readMatrixLeft (now (part .entry)) (now (matrix .entry)) ⌝ }
+{
+    scheme::declined(reading::read_setup_matrix(part, matrix))
+}
+
+// Reads a DL.
+#[no_mangle]
+pub extern "C" fn mavdrusek_read_dealing(
+    p: u16,
+    l: u16,
+    e: u16,
+    n: u16,
+    part: &[u8],
+    g: &mut [u16],
+    h: &mut [u16],
+    dealing: &mut u16,
+    holder: &mut u16,
+) -> u16
+    ensures answer { λ r. ⌜ r ≡ readDealingCall (setup p l e n []) (now (part .entry)) (now (g .entry)) (now (h .entry)) .number ⌝ }
+    ensures dealing { λ r. ⌜ now (dealing .exit) ≡ place 0 (readDealingCall (setup p l e n []) (now (part .entry)) (now (g .entry)) (now (h .entry))) (now (dealing .entry)) ⌝ }
+    ensures holder { λ r. ⌜ now (holder .exit) ≡ place 1 (readDealingCall (setup p l e n []) (now (part .entry)) (now (g .entry)) (now (h .entry))) (now (holder .entry)) ⌝ }
+    ensures row { λ r. ⌜ now (g .exit) ≡ readDealingLeftG (setup p l e n []) (now (part .entry)) (now (g .entry)) (now (h .entry)) ⌝ }
+    ensures column { λ r. ⌜ now (h .exit) ≡ readDealingLeftH (setup p l e n []) (now (part .entry)) (now (g .entry)) (now (h .entry)) ⌝ }
+{
+    match reading::read_dealing(Params { p, l, e, n }, part, g, h) {
+        DealingRead::Is(x) => {
+            *dealing = x.dealing;
+            *holder = x.holder;
+            0
+        }
+        DealingRead::Refused(k) => k,
+    }
+}
+
+// Reads a PV.
+#[no_mangle]
+pub extern "C" fn mavdrusek_read_pair_value(
+    p: u16,
+    l: u16,
+    e: u16,
+    n: u16,
+    part: &[u8],
+    dealing: &mut u16,
+    sender: &mut u16,
+    receiver: &mut u16,
+    value: &mut u16,
+) -> u16
+    ensures answer { λ r. ⌜ r ≡ readPairCall (setup p l e n []) (now (part .entry)) .number ⌝ }
+    ensures dealing { λ r. ⌜ now (dealing .exit) ≡ place 0 (readPairCall (setup p l e n []) (now (part .entry))) (now (dealing .entry)) ⌝ }
+    ensures sender { λ r. ⌜ now (sender .exit) ≡ place 1 (readPairCall (setup p l e n []) (now (part .entry))) (now (sender .entry)) ⌝ }
+    ensures receiver { λ r. ⌜ now (receiver .exit) ≡ place 2 (readPairCall (setup p l e n []) (now (part .entry))) (now (receiver .entry)) ⌝ }
+    ensures value { λ r. ⌜ now (value .exit) ≡ place 3 (readPairCall (setup p l e n []) (now (part .entry))) (now (value .entry)) ⌝ }
+{
+    match reading::read_pair_value(Params { p, l, e, n }, part) {
+        PairRead::Is(x) => {
+            *dealing = x.dealing;
+            *sender = x.sender;
+            *receiver = x.receiver;
+            *value = x.value;
+            0
+        }
+        PairRead::Refused(k) => k,
+    }
+}
+
+// Reads a VD.
+#[no_mangle]
+pub extern "C" fn mavdrusek_read_verdict(
+    p: u16,
+    l: u16,
+    e: u16,
+    n: u16,
+    part: &[u8],
+    dealing: &mut u16,
+    holder: &mut u16,
+    verdict: &mut u16,
+) -> u16
+    ensures answer { λ r. ⌜ r ≡ readVerdictCall (setup p l e n []) (now (part .entry)) .number ⌝ }
+    ensures dealing { λ r. ⌜ now (dealing .exit) ≡ place 0 (readVerdictCall (setup p l e n []) (now (part .entry))) (now (dealing .entry)) ⌝ }
+    ensures holder { λ r. ⌜ now (holder .exit) ≡ place 1 (readVerdictCall (setup p l e n []) (now (part .entry))) (now (holder .entry)) ⌝ }
+    ensures verdict { λ r. ⌜ now (verdict .exit) ≡ place 2 (readVerdictCall (setup p l e n []) (now (part .entry))) (now (verdict .entry)) ⌝ }
+{
+    match reading::read_verdict(Params { p, l, e, n }, part) {
+        VerdictRead::Is(x) => {
+            *dealing = x.dealing;
+            *holder = x.holder;
+            *verdict = x.verdict;
+            0
+        }
+        VerdictRead::Refused(k) => k,
+    }
+}
+
+// Reads an SH.
+#[no_mangle]
+pub extern "C" fn mavdrusek_read_share(
+    p: u16,
+    l: u16,
+    e: u16,
+    n: u16,
+    part: &[u8],
+    dealing: &mut u16,
+    holder: &mut u16,
+    column: &mut u16,
+    value: &mut u16,
+) -> u16
+    ensures answer { λ r. ⌜ r ≡ readShareCall (setup p l e n []) (now (part .entry)) .number ⌝ }
+    ensures dealing { λ r. ⌜ now (dealing .exit) ≡ place 0 (readShareCall (setup p l e n []) (now (part .entry))) (now (dealing .entry)) ⌝ }
+    ensures holder { λ r. ⌜ now (holder .exit) ≡ place 1 (readShareCall (setup p l e n []) (now (part .entry))) (now (holder .entry)) ⌝ }
+    ensures column { λ r. ⌜ now (column .exit) ≡ place 2 (readShareCall (setup p l e n []) (now (part .entry))) (now (column .entry)) ⌝ }
+    ensures value { λ r. ⌜ now (value .exit) ≡ place 3 (readShareCall (setup p l e n []) (now (part .entry))) (now (value .entry)) ⌝ }
+{
+    match reading::read_share(Params { p, l, e, n }, part) {
+        ShareRead::Is(x) => {
+            *dealing = x.dealing;
+            *holder = x.holder;
+            *column = x.column;
+            *value = x.value;
+            0
+        }
+        ShareRead::Refused(k) => k,
+    }
+}
+
+// THE HOLDER'S FILE
+// Prints a holder's file into a lent buffer of 256 bytes, and gives how many there are.
+#[no_mangle]
+pub extern "C" fn mavdrusek_holder_file(file: &[u8], out: &mut [u8], count: &mut usize) -> u16
+    ensures answer { λ r. ⌜ r ≡ holderFileCall (now (file .entry)) (now (out .entry)) .number ⌝ }
+    ensures count { λ r. ⌜ now (count .exit) ≡ place 0 (holderFileCall (now (file .entry)) (now (out .entry))) (now (count .entry)) ⌝ }
+    ensures buffer { λ r. ⌜ now (out .exit) ≡ holderFileLeft (now (file .entry)) (now (out .entry)) ⌝ }
+{
+    match holder_file::holder_file(file, out) {
+        Printing::Bytes(k) => {
+            *count = k;
+            0
+        }
+        Printing::Refused(k) => k,
+    }
+}

@@ -1,0 +1,494 @@
+// Stored cases from standard input, each a call with all that it is lent, and for each what it gave, then a line feed: the number returned, the values given, and every lent buffer
+// as it is left. A case is a head of 15 words (the call, eight numbers, the lengths of five slices of words and of one of bytes), then the slices. A place
+// for a value holds 7777 before the call.
+ghost use mathlib.Core.Path.{_≡_};
+ghost use Prim.Native.Nat.{_≤_};
+ghost use lib.ListN.{length};
+use libc::STDIN_FILENO;
+use libc::STDOUT_FILENO;
+
+// PRINTING
+fn print(x: u16) {
+    io::print_decimal(STDOUT_FILENO, x as u64);
+    io::write_all(STDOUT_FILENO, b" ");
+}
+
+fn print_words(xs: &[u16]) {
+    let mut i = 0;
+    while i < xs.len() {
+        print(xs[i]);
+        i += 1;
+    }
+}
+
+fn widened(x: u8) -> u16 {
+    x as u16
+}
+
+fn print_bytes(xs: &[u8]) {
+    let mut i = 0;
+    while i < xs.len() {
+        print(widened(xs[i]));
+        i += 1;
+    }
+}
+
+fn one(number: u16, x: u16) {
+    print(number);
+    print(x);
+}
+
+fn two(number: u16, x: u16, y: u16) {
+    one(number, x);
+    print(y);
+}
+
+fn three(number: u16, x: u16, y: u16, z: u16) {
+    two(number, x, y);
+    print(z);
+}
+
+fn four(number: u16, x: u16, y: u16, z: u16, w: u16) {
+    three(number, x, y, z);
+    print(w);
+}
+
+// DEALING AND JUDGING
+fn points(k: &[u16; 15], matrix: &mut [u16]) {
+    print(c_api::mavdrusek_points(k[1], k[2], k[3], k[4], matrix));
+    print_words(matrix);
+}
+
+fn deal(
+    k: &[u16; 15],
+    matrix: &[u16],
+    secrets: &[u16],
+    random: &[u16],
+    g: &mut [u16],
+    h: &mut [u16],
+) {
+    print(c_api::mavdrusek_deal(k[1], k[2], k[3], k[4], matrix, secrets, random, k[5], g, h));
+    print_words(g);
+    print_words(h);
+}
+
+fn deal_all(
+    k: &[u16; 15],
+    matrix: &[u16],
+    secrets: &[u16],
+    random: &[u16],
+    gs: &mut [u16],
+    hs: &mut [u16],
+) {
+    print(c_api::mavdrusek_deal_all(k[1], k[2], k[3], k[4], matrix, secrets, random, gs, hs));
+    print_words(gs);
+    print_words(hs);
+}
+
+fn pair_value(k: &[u16; 15], matrix: &[u16], g: &[u16]) {
+    let mut x: u16 = 7777;
+    let number = c_api::mavdrusek_pair_value(k[1], k[2], k[3], k[4], matrix, g, k[5], &mut x);
+    one(number, x);
+}
+
+fn judge(k: &[u16; 15], matrix: &[u16], h: &[u16], values: &[u16]) {
+    let mut x: u16 = 7777;
+    let mut y: u16 = 7777;
+    let number = c_api::mavdrusek_judge(k[1], k[2], k[3], k[4], matrix, h, values, &mut x, &mut y);
+    two(number, x, y);
+}
+
+fn outcome(k: &[u16; 15], g: &[u16], verdicts: &[u16], shares: &mut [u16]) {
+    let mut x: u16 = 7777;
+    let mut y: u16 = 7777;
+    let number = c_api::mavdrusek_outcome(
+        k[1],
+        k[2],
+        k[3],
+        k[4],
+        g,
+        verdicts,
+        shares,
+        &mut x,
+        &mut y,
+    );
+    two(number, x, y);
+    print_words(shares);
+}
+
+fn rehearse(k: &[u16; 15], matrix: &[u16], gs: &[u16], hs: &[u16]) {
+    let mut x: u16 = 7777;
+    let mut y: u16 = 7777;
+    let mut z: u16 = 7777;
+    let number = c_api::mavdrusek_rehearse(
+        k[1],
+        k[2],
+        k[3],
+        k[4],
+        matrix,
+        gs,
+        hs,
+        &mut x,
+        &mut y,
+        &mut z,
+    );
+    three(number, x, y, z);
+}
+
+fn combine(k: &[u16; 15], constants: &[u16], shares: &[u16]) {
+    let mut x: u16 = 7777;
+    let number = c_api::mavdrusek_combine(k[1], constants, shares, &mut x);
+    one(number, x);
+}
+
+fn dealing_call(
+    k: &[u16; 15],
+    a: &mut [u16],
+    b: &mut [u16],
+    c: &mut [u16],
+    d: &mut [u16],
+    e: &mut [u16],
+) {
+    match k[0] {
+        0 => points(k, a),
+        1 => deal(k, a, b, c, d, e),
+        2 => deal_all(k, a, b, c, d, e),
+        3 => pair_value(k, a, b),
+        4 => judge(k, a, b, c),
+        5 => outcome(k, a, b, c),
+        6 => rehearse(k, a, b, c),
+        _ => combine(k, a, b),
+    }
+}
+
+// SETS AND OPENINGS
+fn half(x: u16) -> u32
+    ensures { λ r. ⌜ r ≤ 65535 ⌝ }
+{
+    x as u32
+}
+
+fn set(k: &[u16; 15]) -> u32 {
+    half(k[5]) + 65536 * half(k[6])
+}
+
+fn judge_set(k: &[u16; 15], matrix: &[u16], out: &mut [u16]) {
+    let mut x: u16 = 7777;
+    let number = c_api::mavdrusek_judge_set(
+        k[1],
+        k[2],
+        k[3],
+        k[4],
+        matrix,
+        set(k),
+        k[7],
+        out,
+        &mut x,
+    );
+    one(number, x);
+    print_words(out);
+}
+
+fn determines(k: &[u16; 15], matrix: &[u16]) {
+    let mut x: u16 = 7777;
+    let number = c_api::mavdrusek_determines(k[1], k[2], k[3], k[4], matrix, set(k), &mut x);
+    one(number, x);
+}
+
+fn private(k: &[u16; 15], matrix: &[u16]) {
+    let mut x: u16 = 7777;
+    let number = c_api::mavdrusek_private(k[1], k[2], k[3], k[4], matrix, set(k), &mut x);
+    one(number, x);
+}
+
+fn open(k: &[u16; 15], matrix: &[u16], shares: &[u16], secrets: &mut [u16]) {
+    let mut x: u16 = 7777;
+    let number = c_api::mavdrusek_open(
+        k[1],
+        k[2],
+        k[3],
+        k[4],
+        matrix,
+        set(k),
+        shares,
+        secrets,
+        &mut x,
+    );
+    one(number, x);
+    print_words(secrets);
+}
+
+fn opening_call(k: &[u16; 15], a: &mut [u16], b: &mut [u16], c: &mut [u16]) {
+    match k[0] {
+        8 => judge_set(k, a, b),
+        9 => determines(k, a),
+        10 => private(k, a),
+        11 => open(k, a, b, c),
+        _ => print(c_api::mavdrusek_field(k[1])),
+    }
+}
+
+// RECORDS
+fn written(number: u16, out: &[u8]) {
+    print(number);
+    print_bytes(out);
+}
+
+fn write_setup(k: &[u16; 15], matrix: &[u16], out: &mut [u8]) {
+    written(
+        c_api::mavdrusek_write_setup(k[1], k[2], k[3], k[4], matrix, out),
+        out,
+    );
+}
+
+fn write_dealing(k: &[u16; 15], g: &[u16], h: &[u16], out: &mut [u8]) {
+    written(
+        c_api::mavdrusek_write_dealing(k[1], k[2], k[3], k[4], k[5], k[6], g, h, out),
+        out,
+    );
+}
+
+fn write_pair_value(k: &[u16; 15], out: &mut [u8]) {
+    written(
+        c_api::mavdrusek_write_pair_value(k[1], k[2], k[3], k[4], k[5], k[6], k[7], k[8], out),
+        out,
+    );
+}
+
+fn write_verdict(k: &[u16; 15], out: &mut [u8]) {
+    written(
+        c_api::mavdrusek_write_verdict(k[1], k[2], k[3], k[4], k[5], k[6], k[7], out),
+        out,
+    );
+}
+
+fn write_share(k: &[u16; 15], out: &mut [u8]) {
+    written(
+        c_api::mavdrusek_write_share(k[1], k[2], k[3], k[4], k[5], k[6], k[7], k[8], out),
+        out,
+    );
+}
+
+fn writing_call(k: &[u16; 15], a: &[u16], b: &[u16], out: &mut [u8]) {
+    match k[0] {
+        13 => write_setup(k, a, out),
+        14 => write_dealing(k, a, b, out),
+        15 => write_pair_value(k, out),
+        16 => write_verdict(k, out),
+        _ => write_share(k, out),
+    }
+}
+
+fn read_setup_head(part: &[u8]) {
+    let mut x: u16 = 7777;
+    let mut y: u16 = 7777;
+    let mut z: u16 = 7777;
+    let mut w: u16 = 7777;
+    let number = c_api::mavdrusek_read_setup_head(part, &mut x, &mut y, &mut z, &mut w);
+    four(number, x, y, z, w);
+}
+
+fn read_setup_matrix(part: &[u8], matrix: &mut [u16]) {
+    print(c_api::mavdrusek_read_setup_matrix(part, matrix));
+    print_words(matrix);
+}
+
+fn read_dealing(k: &[u16; 15], part: &[u8], g: &mut [u16], h: &mut [u16]) {
+    let mut x: u16 = 7777;
+    let mut y: u16 = 7777;
+    let number = c_api::mavdrusek_read_dealing(k[1], k[2], k[3], k[4], part, g, h, &mut x, &mut y);
+    two(number, x, y);
+    print_words(g);
+    print_words(h);
+}
+
+fn read_pair_value(k: &[u16; 15], part: &[u8]) {
+    let mut x: u16 = 7777;
+    let mut y: u16 = 7777;
+    let mut z: u16 = 7777;
+    let mut w: u16 = 7777;
+    let number = c_api::mavdrusek_read_pair_value(
+        k[1],
+        k[2],
+        k[3],
+        k[4],
+        part,
+        &mut x,
+        &mut y,
+        &mut z,
+        &mut w,
+    );
+    four(number, x, y, z, w);
+}
+
+fn read_verdict(k: &[u16; 15], part: &[u8]) {
+    let mut x: u16 = 7777;
+    let mut y: u16 = 7777;
+    let mut z: u16 = 7777;
+    let number = c_api::mavdrusek_read_verdict(
+        k[1],
+        k[2],
+        k[3],
+        k[4],
+        part,
+        &mut x,
+        &mut y,
+        &mut z,
+    );
+    three(number, x, y, z);
+}
+
+fn read_share(k: &[u16; 15], part: &[u8]) {
+    let mut x: u16 = 7777;
+    let mut y: u16 = 7777;
+    let mut z: u16 = 7777;
+    let mut w: u16 = 7777;
+    let number = c_api::mavdrusek_read_share(
+        k[1],
+        k[2],
+        k[3],
+        k[4],
+        part,
+        &mut x,
+        &mut y,
+        &mut z,
+        &mut w,
+    );
+    four(number, x, y, z, w);
+}
+
+fn reading_call(k: &[u16; 15], part: &[u8], a: &mut [u16], b: &mut [u16]) {
+    match k[0] {
+        18 => read_setup_head(part),
+        19 => read_setup_matrix(part, a),
+        20 => read_dealing(k, part, a, b),
+        21 => read_pair_value(k, part),
+        22 => read_verdict(k, part),
+        _ => read_share(k, part),
+    }
+}
+
+fn write(text: &[u8], count: usize) {
+    if count <= text.len() {
+        io::write_all(STDOUT_FILENO, &text[..count]);
+    }
+}
+
+// What a holder's file prints.
+fn holder_file(file: &[u8]) {
+    let mut text = [0u8; 256];
+    let mut count: usize = 0;
+    c_api::mavdrusek_holder_file(file, &mut text, &mut count);
+    write(&text, count);
+}
+
+// CASES
+fn call(
+    k: &[u16; 15],
+    a: &mut [u16],
+    b: &mut [u16],
+    c: &mut [u16],
+    d: &mut [u16],
+    e: &mut [u16],
+    bytes: &mut [u8],
+) {
+    match k[0] {
+        0..=7 => dealing_call(k, a, b, c, d, e),
+        12 => holder_file(bytes),
+        13..=17 => writing_call(k, a, b, bytes),
+        18..=23 => reading_call(k, bytes, a, b),
+        _ => opening_call(k, a, b, c),
+    }
+}
+
+// The length of a slice of words, which is at most 528.
+fn words_len(k: u16) -> usize
+    ensures { λ r. ⌜ r ≤ 528 ⌝ }
+{
+    if k <= 528 { k as usize } else { 528 }
+}
+
+// The length of a slice of bytes, which is at most 4,096.
+fn bytes_len(k: u16) -> usize
+    ensures { λ r. ⌜ r ≤ 4096 ⌝ }
+{
+    if k <= 4096 { k as usize } else { 4096 }
+}
+
+// Reads len bytes; false where there are fewer.
+fn read(out: &mut [u8], len: usize) -> bool {
+    if out.len() < len {
+        return false;
+    }
+    io::read_full(STDIN_FILENO, &mut out[..len]) == len
+}
+
+// The next len words; zeros where there are fewer.
+fn read_words(len: usize) -> [u16; 528]
+    requires { ⌜ len ≤ 528 ⌝ }
+    ensures { λ r. ⌜ length r ≡ 528 ⌝ }
+{
+    let mut bytes = [0u8; 1056];
+    let mut out = [0u16; 528];
+    if read(&mut bytes, 2 * len) {
+        words::get_words(&bytes, 0, &mut out);
+    }
+    out
+}
+
+// The next len bytes.
+fn read_bytes(len: usize) -> [u8; 4096]
+    ensures { λ r. ⌜ length r ≡ 4096 ⌝ }
+{
+    let mut out = [0u8; 4096];
+    read(&mut out, len);
+    out
+}
+
+// The slices of a case, and its call.
+fn run(k: &[u16; 15]) {
+    let i = words_len(k[9]);
+    let j = words_len(k[10]);
+    let l = words_len(k[11]);
+    let m = words_len(k[12]);
+    let n = words_len(k[13]);
+    let o = bytes_len(k[14]);
+    let mut a = read_words(i);
+    let mut b = read_words(j);
+    let mut c = read_words(l);
+    let mut d = read_words(m);
+    let mut e = read_words(n);
+    let mut f = read_bytes(o);
+    call(
+        k,
+        &mut a[..i],
+        &mut b[..j],
+        &mut c[..l],
+        &mut d[..m],
+        &mut e[..n],
+        &mut f[..o],
+    );
+    io::write_all(STDOUT_FILENO, b"\n");
+}
+
+// The next case; false where there is none.
+fn next() -> bool {
+    let mut bytes = [0u8; 30];
+    let mut head = [0u16; 15];
+    if !read(&mut bytes, 30) {
+        return false;
+    }
+    words::get_words(&bytes, 0, &mut head);
+    run(&head);
+    true
+}
+
+fn main() {
+    let mut i = 0usize;
+    while i < 100000 {
+        if !next() {
+            return;
+        }
+        i += 1;
+    }
+}

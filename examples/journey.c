@@ -1,0 +1,168 @@
+/* The journey of one key: dealt to 16 holders, judged by all of them, kept, combined, opened by seven; then a dealer that lies. Exit status 1 when
+ * anything is not as expected. To build and run, in the repository's folder:
+ *
+ *   rt staticlib c_api
+ *   cc -Wall -Wextra -O2 -Iinclude -o target/journey examples/journey.c target/staticlib/libc_api.a && target/journey
+ */
+#include <stdio.h>
+#include <stdlib.h>
+#include <string.h>
+
+#include "mavdrusek.h"
+
+enum { P = 257, L = 4, E = 3, N = 16, D = L + E, DEALING = 1 };
+#define SETUP P, L, E, N
+
+static uint16_t matrix[N * D], gs[N * D], hs[N * D], shares[N][L];
+
+static void expect(int is_so, const char *what)
+{
+    if (!is_so) {
+        printf("not as expected: %s\n", what);
+        exit(1);
+    }
+}
+
+/* A fixed generator, so that the example prints the same each time. A real dealer must draw each entry evenly below p from a secure source:
+ * whoever can guess the random entries learns the key from a single part. */
+static uint16_t drawn(void)
+{
+    static uint64_t state = 2014;
+    state = state * 6364136223846793005u + 1442695040888963407u;
+    return (uint16_t)((state >> 33) % P);
+}
+
+/* The values that a holder receives, one from everyone, itself included. */
+static void exchange(const uint16_t *rows, uint16_t holder, uint16_t *values)
+{
+    for (int j = 0; j < N; j++)
+        expect(mavdrusek_pair_value(SETUP, matrix, N * D, rows + j * D, D, holder, &values[j]) == 0, "a pair value");
+}
+
+/* Everyone's verdict on the parts as they were dealt, and whom a reject names. */
+static void judge_all(const uint16_t *rows, const uint16_t *columns, uint16_t *verdicts, uint16_t *named)
+{
+    for (uint16_t i = 0; i < N; i++) {
+        uint16_t values[N];
+        exchange(rows, i, values);
+        expect(mavdrusek_judge(SETUP, matrix, N * D, columns + i * D, D, values, N, &verdicts[i], &named[i]) == 0, "a judgement");
+    }
+}
+
+/* Opens one column, or a combination of columns, of the holders in a set; the shares by rising holder. */
+static uint16_t open_column(uint32_t set, const uint16_t *by_holder, uint16_t *secrets, uint16_t *position)
+{
+    uint16_t handed[N];
+    size_t count = 0;
+    for (int i = 0; i < N; i++)
+        if (set >> i & 1)
+            handed[count++] = by_holder[i];
+    return mavdrusek_open(SETUP, matrix, N * D, set, handed, count, secrets, L, position);
+}
+
+/* A holder's file: the setup, its part, the values it received and everyone's verdict. */
+static void print_file(uint16_t holder, const uint16_t *verdicts)
+{
+    enum { SU = 10 + 2 * N * D, DL = 6 + 4 * D, PV = 10, VD = 8 };
+    uint8_t file[SU + DL + N * PV + N * VD], out[256], *at = file;
+    uint16_t values[N];
+    size_t count;
+    exchange(gs, holder, values);
+    expect(mavdrusek_write_setup(SETUP, matrix, N * D, at, SU) == 0, "SU");
+    at += SU;
+    expect(mavdrusek_write_dealing(SETUP, DEALING, holder, gs + holder * D, D, hs + holder * D, D, at, DL) == 0, "DL");
+    at += DL;
+    for (uint16_t j = 0; j < N; j++, at += PV)
+        expect(mavdrusek_write_pair_value(SETUP, DEALING, j, holder, values[j], at, PV) == 0, "PV");
+    for (uint16_t j = 0; j < N; j++, at += VD)
+        expect(mavdrusek_write_verdict(SETUP, DEALING, j, verdicts[j], at, VD) == 0, "VD");
+    expect(mavdrusek_holder_file(file, sizeof file, out, sizeof out, &count) == 0, "the holder's file");
+    expect(strncmp((char *)out, "setup 257 4 3 16\n", 17) == 0, "the file's text");
+    printf("holder %d's file prints\n", holder);
+    for (size_t k = 0; k < count; k++)
+        printf("%s%c", k == 0 || out[k - 1] == '\n' ? "    " : "", out[k]);
+}
+
+int main(void)
+{
+    const char *text = "sixteen-byte key";
+    uint16_t key[L * L], random[D * D - L * L];
+    uint16_t verdicts[N], named[N], kept, first, position = 0, yes, kind, fair, checker, sender;
+    uint16_t column[L], combined[N], by_holder[N], row[32];
+
+    /* The setup that all agree on: any 7 holders determine the key, any 3 learn nothing. */
+    expect(mavdrusek_points(SETUP, matrix, N * D) == 0, "the points matrix");
+    printf("points matrix: %d rows of %d\n", N, D);
+
+    /* The dealer: a key of 16 bytes as four columns of four. */
+    for (int k = 0; k < L * L; k++)
+        key[k] = (uint8_t)text[k];
+    for (int k = 0; k < D * D - L * L; k++)
+        random[k] = drawn();
+    expect(mavdrusek_deal_all(SETUP, matrix, N * D, key, L * L, random, D * D - L * L, gs, N * D, hs, N * D) == 0, "a dealing");
+    expect(mavdrusek_rehearse(SETUP, matrix, N * D, gs, N * D, hs, N * D, &fair, &checker, &sender) == 0 && fair == 1, "a fair rehearsal");
+    printf("dealt: four columns to %d holders; the rehearsal is fair\n", N);
+
+    /* The holders: everyone sends everyone a value, judges what it received, and says its verdict. */
+    judge_all(gs, hs, verdicts, named);
+    for (int i = 0; i < N; i++)
+        expect(verdicts[i] == 1, "accept");
+    printf("judged: all %d accept\n", N);
+
+    /* Everyone accepts, so everyone keeps its four shares. */
+    for (int i = 0; i < N; i++)
+        expect(mavdrusek_outcome(SETUP, gs + i * D, D, verdicts, N, shares[i], L, &kept, &first) == 0 && kept == 1, "kept");
+    printf("kept: holder 3's shares are %d %d %d %d\n", shares[3][0], shares[3][1], shares[3][2], shares[3][3]);
+    print_file(3, verdicts);
+
+    /* Seven holders open: first a combination of two columns, 3 times column 0 and 5 times column 2, then the key. */
+    uint32_t seven = 1 << 0 | 1 << 2 | 1 << 4 | 1 << 5 | 1 << 7 | 1 << 10 | 1 << 15;
+    expect(mavdrusek_determines(SETUP, matrix, N * D, seven, &yes) == 0 && yes == 1, "seven determine");
+    for (int i = 0; i < N; i++) {
+        uint16_t constants[2] = {3, 5}, two[2] = {shares[i][0], shares[i][2]};
+        expect(mavdrusek_combine(P, constants, 2, two, 2, &combined[i]) == 0, "a combination");
+    }
+    expect(open_column(seven, combined, column, &position) == 0, "the combination opens");
+    for (int k = 0; k < L; k++)
+        expect(column[k] == (3 * key[k] + 5 * key[2 * L + k]) % P, "the combination of the columns");
+    printf("combined: 3 * column 0 + 5 * column 2 opens to %d %d %d %d\n", column[0], column[1], column[2], column[3]);
+    printf("opened by seven: \"");
+    for (int b = 0; b < L; b++) {
+        for (int i = 0; i < N; i++)
+            by_holder[i] = shares[i][b];
+        expect(open_column(seven, by_holder, column, &position) == 0, "a column opens");
+        expect(memcmp(column, key + b * L, sizeof column) == 0, "the column dealt");
+        printf("%c%c%c%c", column[0], column[1], column[2], column[3]);
+    }
+    printf("\"\n");
+
+    /* Six of them cannot, three learn nothing, and a changed share among eight is noticed. */
+    expect(open_column(seven & ~1u, by_holder, column, &position) == 6 && position == 0, "six cannot open");
+    expect(mavdrusek_private(SETUP, matrix, N * D, 7, &yes) == 0 && yes == 1, "three are private");
+    expect(mavdrusek_judge_set(SETUP, matrix, N * D, 7, 0, row, 32, &kind) == 0 && kind == 2, "three learn nothing");
+    by_holder[5] = (by_holder[5] + 1) % P;
+    expect(open_column(0xff, by_holder, column, &position) == 7, "a changed share is refused");
+    printf("six cannot open, three learn nothing, a changed share among eight is refused\n");
+
+    /* A dealer that lies: one entry of holder 5's row part is changed. */
+    uint16_t *entry = &gs[5 * D + 2];
+    *entry = (*entry + 1) % P;
+    judge_all(gs, hs, verdicts, named);
+    for (int i = 0; i < N; i++)
+        expect(verdicts[i] == 0 && named[i] == 5, "everyone names holder 5");
+    expect(mavdrusek_outcome(SETUP, gs, D, verdicts, N, shares[0], L, &kept, &first) == 0 && kept == 0 && first == 0, "aborted by holder 0");
+    expect(mavdrusek_rehearse(SETUP, matrix, N * D, gs, N * D, hs, N * D, &fair, &checker, &sender) == 0, "a rehearsal");
+    expect(fair == 0 && checker == 0 && sender == 5, "the rehearsal names the pair");
+    printf("a lie in holder 5's row: everyone rejects and names 5; aborted by holder 0\n");
+    *entry = (*entry + P - 1) % P;
+
+    /* The same in holder 9's column part: holder 9 alone notices, and that is enough. */
+    hs[9 * D] = (hs[9 * D] + 1) % P;
+    judge_all(gs, hs, verdicts, named);
+    for (int i = 0; i < N; i++)
+        expect(verdicts[i] == (i != 9), "holder 9 alone rejects");
+    expect(named[9] == 0, "holder 9 names 0");
+    expect(mavdrusek_outcome(SETUP, gs, D, verdicts, N, shares[0], L, &kept, &first) == 0 && kept == 0 && first == 9, "aborted by holder 9");
+    printf("a lie in holder 9's column: holder 9 rejects and names 0; aborted by holder 9\n");
+    return 0;
+}

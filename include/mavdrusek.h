@@ -1,0 +1,156 @@
+/* Packed verifiable secret sharing: the calls of the proved library, for C.
+ *
+ * A setup is passed as its four numbers, and its matrix beside them where a call needs it:
+ *   p  one of 2, 7, 251, 257, 65521
+ *   l  secret length, 1 to 8          e  randomness length, 1 to 8
+ *   n  holders, 1 to 32               d  stands for l + e below
+ *   matrix  n * d elements, by rows; row i is holder i's
+ * A field element is a number below p. Holders, columns and positions count from 0. A set of holders has bit i for holder i.
+ *
+ * Every function returns 0, or the number of the one refusal; then every lent buffer and place keeps its contents (but refusal 6 of
+ * mavdrusek_open gives its position). The lowest number that applies is given:
+ *   1  p is none of the five
+ *   2  l, e or n beyond its limits
+ *   3  a length is not the one needed, over 64 terms, or a record is cut short
+ *   4  a field element is p or more
+ *   5  a holder, column or position out of range, an SH with dealing 0 and a column other than 0, or a set bit at or above n
+ *   6  the opening set does not determine the secrets
+ *   7  it does, but no vector gives all the shares
+ *   8  another mark than the record's
+ *   9  dealing number 0 outside SH
+ *  12  a verdict is neither 0 nor 1
+ *  14  a combination with both lists empty
+ *  15  points matrix with d + n above p
+ * A reader tests the setup and the buffers that it is lent, then the mark, then the length, then the rest. (mavdrusek_read_setup_matrix knows the length
+ * needed only from the record, and tests its buffer after the record's length.)
+ *
+ * A pointer must be valid for the length beside it even where that is 0 (any non-null, aligned pointer will do then), and nothing that a call
+ * writes may overlap anything else that it is lent. A reader looks at one record at the start of `part`; bytes behind it are not looked at. */
+#ifndef MAVDRUSEK_H
+#define MAVDRUSEK_H
+
+#include <stddef.h>
+#include <stdint.h>
+
+#ifdef __cplusplus
+extern "C" {
+#endif
+
+/* Whether there is a field of p elements. Refusal 1. */
+uint16_t mavdrusek_field(uint16_t p);
+
+/* ---- Dealing */
+
+/* The points matrix into `matrix`, n * d entries. Refusals 1, 2, 3, 15. */
+uint16_t mavdrusek_points(uint16_t p, uint16_t l, uint16_t e, uint16_t n, uint16_t *matrix, size_t matrix_len);
+
+/* Holder `holder`'s part of a dealing: g and h, d entries each. `secrets` has l * l elements, position k of secret vector b at b * l + k; `random`
+ * has d * d - l * l elements, drawn evenly by the caller. Refusals 1 to 5. */
+uint16_t mavdrusek_deal(uint16_t p, uint16_t l, uint16_t e, uint16_t n, const uint16_t *matrix, size_t matrix_len, const uint16_t *secrets,
+                        size_t secrets_len, const uint16_t *random, size_t random_len, uint16_t holder, uint16_t *g, size_t g_len, uint16_t *h,
+                        size_t h_len);
+
+/* Every holder's part: holder i's g and h at i * d of `gs` and `hs`, n * d entries each. Refusals 1 to 4. */
+uint16_t mavdrusek_deal_all(uint16_t p, uint16_t l, uint16_t e, uint16_t n, const uint16_t *matrix, size_t matrix_len, const uint16_t *secrets,
+                            size_t secrets_len, const uint16_t *random, size_t random_len, uint16_t *gs, size_t gs_len, uint16_t *hs,
+                            size_t hs_len);
+
+/* ---- Judging */
+
+/* The value that the holder with row part g (d entries) sends to holder `to`. Refusals 1 to 5. */
+uint16_t mavdrusek_pair_value(uint16_t p, uint16_t l, uint16_t e, uint16_t n, const uint16_t *matrix, size_t matrix_len, const uint16_t *g,
+                              size_t g_len, uint16_t to, uint16_t *value);
+
+/* The judgement of the holder with column part h (d entries) on the n values that it received, by sender: *verdict is 1 for accept; 0 for reject, and
+ * then *named is the lowest sender whose value differs. Refusals 1 to 4. */
+uint16_t mavdrusek_judge(uint16_t p, uint16_t l, uint16_t e, uint16_t n, const uint16_t *matrix, size_t matrix_len, const uint16_t *h, size_t h_len,
+                         const uint16_t *values, size_t values_len, uint16_t *verdict, uint16_t *named);
+
+/* The outcome for the holder with row part g (d entries) on the n verdicts that it received: *kept is 1, and the l shares, one for each column, are
+ * written; or *kept is 0, *named is the lowest holder that said reject, and the shares stay as they were. Refusals 1 to 4, 12. */
+uint16_t mavdrusek_outcome(uint16_t p, uint16_t l, uint16_t e, uint16_t n, const uint16_t *g, size_t g_len, const uint16_t *verdicts,
+                           size_t verdicts_len, uint16_t *shares, size_t shares_len, uint16_t *kept, uint16_t *named);
+
+/* The dealer's rehearsal on all parts, laid out as mavdrusek_deal_all writes them: *fair is 1; or 0, and then *checker and *sender are the first pair
+ * that disagrees, by checker and then by sender, where the checker checks the sender's value. Refusals 1 to 4. */
+uint16_t mavdrusek_rehearse(uint16_t p, uint16_t l, uint16_t e, uint16_t n, const uint16_t *matrix, size_t matrix_len, const uint16_t *gs,
+                            size_t gs_len, const uint16_t *hs, size_t hs_len, uint16_t *fair, uint16_t *checker, uint16_t *sender);
+
+/* The sum of the products of constants and one holder's shares, 1 to 64 of each. Refusals 1, 3, 4, 14. */
+uint16_t mavdrusek_combine(uint16_t p, const uint16_t *constants, size_t constants_len, const uint16_t *shares, size_t shares_len, uint16_t *value);
+
+/* ---- Sets and openings */
+
+/* Whether the set determines the secrets: *yes is 1 or 0. Refusals 1 to 5. */
+uint16_t mavdrusek_determines(uint16_t p, uint16_t l, uint16_t e, uint16_t n, const uint16_t *matrix, size_t matrix_len, uint32_t set, uint16_t *yes);
+
+/* Whether the set is called private, that is, has at most e members: *yes is 1 or 0. Refusals 1 to 5. */
+uint16_t mavdrusek_private(uint16_t p, uint16_t l, uint16_t e, uint16_t n, const uint16_t *matrix, size_t matrix_len, uint32_t set, uint16_t *yes);
+
+/* The judgement of a set at a position below l: *kind is 1, and `out` (32 entries) a reconstruction row, its entries by rising holder; or 2, and a
+ * sweeping vector of d entries; or 0, neither. Zeros follow. Refusals 1 to 5. */
+uint16_t mavdrusek_judge_set(uint16_t p, uint16_t l, uint16_t e, uint16_t n, const uint16_t *matrix, size_t matrix_len, uint32_t set,
+                             uint16_t position, uint16_t *out, size_t out_len, uint16_t *kind);
+
+/* Opens the set's shares of one column or combination, by rising holder, into l secrets. Refusals 1 to 7; refusal 6 writes the lowest position
+ * with no row into *position, which nothing else writes. */
+uint16_t mavdrusek_open(uint16_t p, uint16_t l, uint16_t e, uint16_t n, const uint16_t *matrix, size_t matrix_len, uint32_t set,
+                        const uint16_t *shares, size_t shares_len, uint16_t *secrets, size_t secrets_len, uint16_t *position);
+
+/* ---- Writing records, each into a buffer of just its length */
+
+/* SU, 10 + 2 * n * d bytes. Refusals 1 to 4. */
+uint16_t mavdrusek_write_setup(uint16_t p, uint16_t l, uint16_t e, uint16_t n, const uint16_t *matrix, size_t matrix_len, uint8_t *out,
+                               size_t out_len);
+
+/* DL, 6 + 4 * d bytes; g and h have d entries each. Refusals 1 to 5, 9. */
+uint16_t mavdrusek_write_dealing(uint16_t p, uint16_t l, uint16_t e, uint16_t n, uint16_t dealing, uint16_t holder, const uint16_t *g, size_t g_len,
+                                 const uint16_t *h, size_t h_len, uint8_t *out, size_t out_len);
+
+/* PV, 10 bytes. Refusals 1 to 5, 9. */
+uint16_t mavdrusek_write_pair_value(uint16_t p, uint16_t l, uint16_t e, uint16_t n, uint16_t dealing, uint16_t sender, uint16_t receiver,
+                                    uint16_t value, uint8_t *out, size_t out_len);
+
+/* VD, 8 bytes; verdict 1 accepts, 0 rejects. Refusals 1, 2, 3, 5, 9, 12. */
+uint16_t mavdrusek_write_verdict(uint16_t p, uint16_t l, uint16_t e, uint16_t n, uint16_t dealing, uint16_t holder, uint16_t verdict, uint8_t *out,
+                                 size_t out_len);
+
+/* SH, 10 bytes; dealing 0 marks a combination, whose column is 0. Refusals 1 to 5. */
+uint16_t mavdrusek_write_share(uint16_t p, uint16_t l, uint16_t e, uint16_t n, uint16_t dealing, uint16_t holder, uint16_t column, uint16_t value,
+                               uint8_t *out, size_t out_len);
+
+/* ---- Reading records */
+
+/* The four numbers of an SU whose matrix is not cut short. Refusals 1, 2, 3, 8. */
+uint16_t mavdrusek_read_setup_head(const uint8_t *part, size_t part_len, uint16_t *p, uint16_t *l, uint16_t *e, uint16_t *n);
+
+/* The matrix of an SU into `matrix`, n * d entries. Refusals 1 to 4, 8. */
+uint16_t mavdrusek_read_setup_matrix(const uint8_t *part, size_t part_len, uint16_t *matrix, size_t matrix_len);
+
+/* A DL; g and h have d entries each. Refusals 1 to 5, 8, 9. */
+uint16_t mavdrusek_read_dealing(uint16_t p, uint16_t l, uint16_t e, uint16_t n, const uint8_t *part, size_t part_len, uint16_t *g, size_t g_len,
+                                uint16_t *h, size_t h_len, uint16_t *dealing, uint16_t *holder);
+
+/* A PV. Refusals 1 to 5, 8, 9. */
+uint16_t mavdrusek_read_pair_value(uint16_t p, uint16_t l, uint16_t e, uint16_t n, const uint8_t *part, size_t part_len, uint16_t *dealing,
+                                   uint16_t *sender, uint16_t *receiver, uint16_t *value);
+
+/* A VD. Refusals 1, 2, 3, 5, 8, 9, 12. */
+uint16_t mavdrusek_read_verdict(uint16_t p, uint16_t l, uint16_t e, uint16_t n, const uint8_t *part, size_t part_len, uint16_t *dealing,
+                                uint16_t *holder, uint16_t *verdict);
+
+/* An SH. Refusals 1 to 5, 8. */
+uint16_t mavdrusek_read_share(uint16_t p, uint16_t l, uint16_t e, uint16_t n, const uint8_t *part, size_t part_len, uint16_t *dealing,
+                              uint16_t *holder, uint16_t *column, uint16_t *value);
+
+/* ---- The holder's file */
+
+/* What the holder program prints for a holder's file of at most 4,096 bytes, into `out`, 256 bytes, of which *count are written. A faulty file is no
+ * refusal of the call: its text says so. Refusal 3. */
+uint16_t mavdrusek_holder_file(const uint8_t *file, size_t file_len, uint8_t *out, size_t out_len, size_t *count);
+
+#ifdef __cplusplus
+}
+#endif
+
+#endif

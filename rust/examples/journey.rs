@@ -1,0 +1,145 @@
+//! The journey of one key: dealt to 16 holders, judged by all of them, kept, combined, opened by seven; then a dealer that lies. Each step says
+//! what it found and stops the program if that is not what it should be (`cargo run --offline --example journey`).
+
+use mavdrusek::*;
+
+const SETUP: Setup = Setup { p: 257, l: 4, e: 3, n: 16 };
+const D: usize = 7;
+const HOLDERS: u16 = 16;
+
+/// A fixed generator, so that the example prints the same each time. A real dealer must draw each entry evenly below p from a secure source:
+/// whoever can guess the random entries learns the key from a single part.
+fn drawn(count: usize) -> Vec<u16> {
+    let mut state: u64 = 2014;
+    let mut next = || {
+        state = state.wrapping_mul(6364136223846793005).wrapping_add(1442695040888963407);
+        ((state >> 33) % SETUP.p as u64) as u16
+    };
+    (0..count).map(|_| next()).collect()
+}
+
+fn part(parts: &[u16], holder: u16) -> &[u16] {
+    &parts[holder as usize * D..][..D]
+}
+
+/// The values that a holder receives, one from everyone, itself included.
+fn received(matrix: &[u16], gs: &[u16], holder: u16) -> Result<Vec<u16>, Refusal> {
+    (0..HOLDERS).map(|sender| SETUP.pair_value(matrix, part(gs, sender), holder)).collect()
+}
+
+/// Everyone's judgement on the parts as they were dealt.
+fn judgements(matrix: &[u16], gs: &[u16], hs: &[u16]) -> Result<Vec<Judgement>, Refusal> {
+    (0..HOLDERS).map(|i| SETUP.judge(matrix, part(hs, i), &received(matrix, gs, i)?)).collect()
+}
+
+fn verdicts(found: &[Judgement]) -> Vec<Verdict> {
+    found.iter().map(|j| j.verdict()).collect()
+}
+
+/// A holder's file: the setup, its part, the values it received and everyone's verdict.
+fn file(matrix: &[u16], gs: &[u16], hs: &[u16], said: &[Verdict], holder: u16) -> Result<Vec<u8>, Refusal> {
+    let mut bytes = vec![0; SETUP.setup_bytes() + SETUP.dealing_bytes()];
+    let (first, second) = bytes.split_at_mut(SETUP.setup_bytes());
+    SETUP.write_setup(matrix, first)?;
+    SETUP.write_dealing(DealingRecord { dealing: 1, holder }, part(gs, holder), part(hs, holder), second)?;
+    for (sender, value) in (0..).zip(received(matrix, gs, holder)?) {
+        let mut record = [0; PAIR_VALUE_BYTES];
+        SETUP.write_pair_value(PairValueRecord { dealing: 1, sender, receiver: holder, value }, &mut record)?;
+        bytes.extend(record);
+    }
+    for (holder, &verdict) in (0..).zip(said) {
+        let mut record = [0; VERDICT_BYTES];
+        SETUP.write_verdict(VerdictRecord { dealing: 1, holder, verdict }, &mut record)?;
+        bytes.extend(record);
+    }
+    Ok(bytes)
+}
+
+pub fn main() -> Result<(), Refusal> {
+    // The setup that all agree on: any 7 holders determine the key, any 3 learn nothing.
+    let mut matrix = vec![0; SETUP.entries()];
+    SETUP.points(&mut matrix)?;
+    println!("points matrix: {} rows of {D}", HOLDERS);
+
+    // The dealer: a key of 16 bytes as four columns of four.
+    let key: Vec<u16> = b"sixteen-byte key".iter().map(|&b| b as u16).collect();
+    let (mut gs, mut hs) = (vec![0; SETUP.entries()], vec![0; SETUP.entries()]);
+    SETUP.deal_all(&matrix, &key, &drawn(SETUP.random()), &mut gs, &mut hs)?;
+    assert_eq!(SETUP.rehearse(&matrix, &gs, &hs)?, Rehearsal::Fair);
+    println!("dealt: four columns to {HOLDERS} holders; the rehearsal is fair");
+
+    // The holders: everyone sends everyone a value, judges what it received, and says its verdict.
+    let found = judgements(&matrix, &gs, &hs)?;
+    assert_eq!(found, vec![Judgement::Accept; 16]);
+    let said = verdicts(&found);
+    println!("judged: all {HOLDERS} accept");
+
+    // Everyone accepts, so everyone keeps its four shares.
+    let mut shares = [[0; 4]; 16];
+    for i in 0..HOLDERS {
+        assert_eq!(SETUP.outcome(part(&gs, i), &said, &mut shares[i as usize])?, Outcome::Kept);
+    }
+    println!("kept: holder 3's shares are {:?}", shares[3]);
+    let mut out = [0; REPORT_BYTES];
+    let text = holder_file(&file(&matrix, &gs, &hs, &said, 3)?, &mut out)?;
+    let [a, b, c, d] = shares[3];
+    let shares_text = format!("share 0 {a}\nshare 1 {b}\nshare 2 {c}\nshare 3 {d}\n");
+    assert_eq!(text, format!("setup 257 4 3 16\ndealing 1 holder 3\nverdict accept\noutcome kept\n{shares_text}"));
+    println!(
+        "holder 3's file prints\n{}",
+        text.trim_end().lines().map(|l| format!("    {l}\n")).collect::<String>().trim_end_matches('\n')
+    );
+
+    // Seven holders open: first a combination of two columns, 3 times column 0 and 5 times column 2, then the key.
+    let seven: u32 = 0b1000_0100_1011_0101;
+    let openers: Vec<usize> = (0..16).filter(|i| seven >> i & 1 == 1).collect();
+    assert!(SETUP.determines(&matrix, seven)?);
+    let combined = openers.iter().map(|&i| combine(257, &[3, 5], &[shares[i][0], shares[i][2]])).collect::<Result<Vec<_>, _>>()?;
+    let mut column = [0; 4];
+    SETUP.open(&matrix, seven, &combined, &mut column)?;
+    for k in 0..4 {
+        assert_eq!(column[k], (3 * key[k] + 5 * key[8 + k]) % 257);
+    }
+    println!("combined: 3 * column 0 + 5 * column 2 opens to {column:?}");
+    let mut opened = vec![];
+    for b in 0..4 {
+        let handed: Vec<u16> = openers.iter().map(|&i| shares[i][b]).collect();
+        SETUP.open(&matrix, seven, &handed, &mut column)?;
+        opened.extend(column);
+    }
+    assert_eq!(opened, key);
+    let bytes: Vec<u8> = opened.iter().map(|&x| x as u8).collect();
+    println!("opened by holders {openers:?}: \"{}\"", String::from_utf8_lossy(&bytes));
+
+    // Six of them cannot, three learn nothing, and a changed share among eight is noticed.
+    let six = seven & (seven - 1);
+    let handed: Vec<u16> = openers[1..].iter().map(|&i| shares[i][0]).collect();
+    assert_eq!(SETUP.open(&matrix, six, &handed, &mut column), Err(Refusal::Undetermined { position: 0 }));
+    assert!(SETUP.private(&matrix, 0b111)?);
+    assert_eq!(SETUP.judge_set(&matrix, 0b111, 0, &mut [0; SET_ENTRIES])?, SetKind::Vector);
+    let mut handed: Vec<u16> = (0..8).map(|i| shares[i][0]).collect();
+    handed[5] = (handed[5] + 1) % 257;
+    assert_eq!(SETUP.open(&matrix, 0xff, &handed, &mut column), Err(Refusal::Inconsistent));
+    println!("six cannot open, three learn nothing, a changed share among eight is refused");
+
+    // A dealer that lies: one entry of holder 5's row part is changed.
+    let mut false_gs = gs.clone();
+    false_gs[5 * D + 2] = (false_gs[5 * D + 2] + 1) % 257;
+    let found = judgements(&matrix, &false_gs, &hs)?;
+    assert_eq!(found, vec![Judgement::Reject(5); 16]);
+    let mut none = [0; 4];
+    assert_eq!(SETUP.outcome(part(&false_gs, 5), &verdicts(&found), &mut none)?, Outcome::Aborted(0));
+    assert_eq!(none, [0; 4]);
+    assert_eq!(SETUP.rehearse(&matrix, &false_gs, &hs)?, Rehearsal::Disagree { checker: 0, sender: 5 });
+    println!("a lie in holder 5's row: everyone rejects and names 5; aborted by holder 0");
+
+    // The same in holder 9's column part: holder 9 alone notices, and that is enough.
+    let mut false_hs = hs.clone();
+    false_hs[9 * D] = (false_hs[9 * D] + 1) % 257;
+    let found = judgements(&matrix, &gs, &false_hs)?;
+    let rejecting: Vec<usize> = (0..16).filter(|&i| found[i] != Judgement::Accept).collect();
+    assert_eq!((rejecting, found[9]), (vec![9], Judgement::Reject(0)));
+    assert_eq!(SETUP.outcome(part(&gs, 0), &verdicts(&found), &mut none)?, Outcome::Aborted(9));
+    println!("a lie in holder 9's column: holder 9 rejects and names 0; aborted by holder 9");
+    Ok(())
+}

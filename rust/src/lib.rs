@@ -1,0 +1,672 @@
+//! Packed verifiable secret sharing: a safe interface to a proved library.
+//!
+//! A dealer gives a key of ℓ columns of ℓ field elements to n holders. A set of holders whose rows of the setup's matrix determine the secrets
+//! brings them back; a private set learns nothing; and holders who follow the rules cannot be left with shares that open two ways.
+//!
+//! Every call is one call of the library, which is proved against definitions; this crate only passes slices and turns numbers into types. The
+//! library tests all it is lent, lengths too, and refuses what is wrong; after a refusal every lent slice holds what it held before.
+//!
+//! A setup is four numbers, [`Setup`], with its matrix beside them in a slice of n · d field elements by rows, where d = ℓ + e. Holders, columns
+//! and positions count from 0. A set of holders is a number whose bit i stands for holder i.
+//!
+//! ```
+//! use mavdrusek::{Judgement, Outcome, Refusal, Setup, Verdict};
+//!
+//! // Three holders, one secret, one random number: any two holders bring the secret back.
+//! let setup = Setup { p: 7, l: 1, e: 1, n: 3 };
+//! let mut matrix = [0; 6];
+//! setup.points(&mut matrix)?;
+//!
+//! // The dealer's work. A real dealer draws the random entries evenly, from a secure source.
+//! let (mut gs, mut hs) = ([0; 6], [0; 6]);
+//! setup.deal_all(&matrix, &[3], &[1, 5, 2], &mut gs, &mut hs)?;
+//!
+//! // Holder 1 gets a value from everyone, judges, hears everyone's verdict and keeps its share.
+//! let mut values = [0; 3];
+//! for (value, g) in values.iter_mut().zip(gs.chunks(setup.d())) {
+//!     *value = setup.pair_value(&matrix, g, 1)?;
+//! }
+//! assert_eq!(setup.judge(&matrix, &hs[2..4], &values)?, Judgement::Accept);
+//! let mut share = [0];
+//! assert_eq!(setup.outcome(&gs[2..4], &[Verdict::Accept; 3], &mut share)?, Outcome::Kept);
+//!
+//! // Holders 0 and 2 open; holder 0 alone cannot.
+//! let mut secret = [0];
+//! setup.open(&matrix, 0b101, &[gs[0], gs[4]], &mut secret)?;
+//! assert_eq!(secret, [3]);
+//! let alone = setup.open(&matrix, 0b001, &[gs[0]], &mut secret);
+//! assert_eq!(alone, Err(Refusal::Undetermined { position: 0 }));
+//! # Ok::<(), Refusal>(())
+//! ```
+
+#![deny(missing_docs)]
+
+mod raw;
+
+use std::error::Error;
+use std::fmt;
+
+/// The primes that a field may have.
+pub const PRIMES: [u16; 5] = [2, 7, 251, 257, 65521];
+/// Entries of the slice that [`Setup::judge_set`] writes.
+pub const SET_ENTRIES: usize = 32;
+/// The most terms that [`combine`] takes.
+pub const MOST_TERMS: usize = 64;
+/// Bytes of a PV record.
+pub const PAIR_VALUE_BYTES: usize = 10;
+/// Bytes of a VD record.
+pub const VERDICT_BYTES: usize = 8;
+/// Bytes of an SH record.
+pub const SHARE_BYTES: usize = 10;
+/// The most bytes of a holder's file.
+pub const MOST_FILE_BYTES: usize = 4096;
+/// Bytes of the slice that [`holder_file`] writes into.
+pub const REPORT_BYTES: usize = 256;
+
+/// Why a call declined. Where more than one applies, a call gives the one with the lowest number; a reader judges the setup it is given, then
+/// the mark, then the length, then the rest.
+#[derive(Clone, Copy, Debug, PartialEq, Eq, Hash)]
+pub enum Refusal {
+    /// 1: p is none of the five primes.
+    NoField,
+    /// 2: ℓ, e or n is beyond its limits.
+    Limits,
+    /// 3: a slice has another length than the one needed, there are over 64 terms, or a record is cut short.
+    Length,
+    /// 4: a field element is p or more.
+    Element,
+    /// 5: a holder, column or position is out of range, a share of a combination has a column other than 0, or a set has a bit at or above n.
+    Range,
+    /// 6: the opening set does not determine the secrets.
+    Undetermined {
+        /// The lowest position with no reconstruction row.
+        position: u16,
+    },
+    /// 7: the set determines the secrets, but no vector gives all the shares.
+    Inconsistent,
+    /// 8: another mark than the record's.
+    Mark,
+    /// 9: dealing number 0 outside SH.
+    DealingNumber,
+    /// 12: a verdict is neither 0 nor 1.
+    NoVerdict,
+    /// 14: a combination with both lists empty.
+    NoTerms,
+    /// 15: a points matrix with d + n above p.
+    TooFewPoints,
+}
+
+impl Refusal {
+    /// The refusal's number.
+    pub fn number(self) -> u16 {
+        match self {
+            Refusal::NoField => 1,
+            Refusal::Limits => 2,
+            Refusal::Length => 3,
+            Refusal::Element => 4,
+            Refusal::Range => 5,
+            Refusal::Undetermined { .. } => 6,
+            Refusal::Inconsistent => 7,
+            Refusal::Mark => 8,
+            Refusal::DealingNumber => 9,
+            Refusal::NoVerdict => 12,
+            Refusal::NoTerms => 14,
+            Refusal::TooFewPoints => 15,
+        }
+    }
+}
+
+impl fmt::Display for Refusal {
+    fn fmt(&self, f: &mut fmt::Formatter) -> fmt::Result {
+        let why = match self {
+            Refusal::NoField => "p is none of the five primes",
+            Refusal::Limits => "l, e or n is beyond its limits",
+            Refusal::Length => "a length is not the one needed",
+            Refusal::Element => "a field element is p or more",
+            Refusal::Range => "a holder, column, position or set is out of range",
+            Refusal::Undetermined { position } => return write!(f, "refused 6: the set does not determine position {position}"),
+            Refusal::Inconsistent => "no vector gives all the shares",
+            Refusal::Mark => "another mark than the record's",
+            Refusal::DealingNumber => "dealing number 0",
+            Refusal::NoVerdict => "a verdict is neither 0 nor 1",
+            Refusal::NoTerms => "a combination of nothing",
+            Refusal::TooFewPoints => "the field has fewer than d + n elements",
+        };
+        write!(f, "refused {}: {why}", self.number())
+    }
+}
+
+impl Error for Refusal {}
+
+/// What the library returned, as a Result. `position` is the place that refusal 6 writes.
+fn answer(number: u16, position: u16) -> Result<(), Refusal> {
+    Err(match number {
+        0 => return Ok(()),
+        1 => Refusal::NoField,
+        2 => Refusal::Limits,
+        3 => Refusal::Length,
+        4 => Refusal::Element,
+        5 => Refusal::Range,
+        6 => Refusal::Undetermined { position },
+        7 => Refusal::Inconsistent,
+        8 => Refusal::Mark,
+        9 => Refusal::DealingNumber,
+        12 => Refusal::NoVerdict,
+        14 => Refusal::NoTerms,
+        15 => Refusal::TooFewPoints,
+        other => unreachable!("the linked library gave {other}, which no call gives"),
+    })
+}
+
+/// What a holder says of a dealing, as a VD record holds it.
+#[derive(Clone, Copy, Debug, PartialEq, Eq, Hash)]
+#[repr(u16)]
+pub enum Verdict {
+    /// A value received differs.
+    Reject = 0,
+    /// Every value received is the due one.
+    Accept = 1,
+}
+
+/// What a holder finds when it judges the values it received.
+#[derive(Clone, Copy, Debug, PartialEq, Eq, Hash)]
+pub enum Judgement {
+    /// Every value is the due one.
+    Accept,
+    /// A value differs; the lowest holder whose value does.
+    Reject(u16),
+}
+
+impl Judgement {
+    /// What the holder says to everyone.
+    pub fn verdict(self) -> Verdict {
+        match self {
+            Judgement::Accept => Verdict::Accept,
+            Judgement::Reject(_) => Verdict::Reject,
+        }
+    }
+}
+
+/// How a dealing ends for a holder.
+#[derive(Clone, Copy, Debug, PartialEq, Eq, Hash)]
+pub enum Outcome {
+    /// Everyone accepts; the shares are kept.
+    Kept,
+    /// Someone rejects; the lowest holder that does.
+    Aborted(u16),
+}
+
+/// What the dealer finds when it tries all parts before it sends them.
+#[derive(Clone, Copy, Debug, PartialEq, Eq, Hash)]
+pub enum Rehearsal {
+    /// Every holder will accept.
+    Fair,
+    /// The first pair that disagrees, by checker and then by sender.
+    Disagree {
+        /// The holder that checks.
+        checker: u16,
+        /// The holder whose value it checks.
+        sender: u16,
+    },
+}
+
+/// What a set has at a position.
+#[derive(Clone, Copy, Debug, PartialEq, Eq, Hash)]
+pub enum SetKind {
+    /// A reconstruction row: the set determines the position.
+    Row,
+    /// A sweeping vector: the set learns nothing about the position.
+    Vector,
+    /// Neither.
+    Neither,
+}
+
+/// The numbers of a DL record; g and h stand beside it in slices.
+#[derive(Clone, Copy, Debug, PartialEq, Eq, Hash)]
+pub struct DealingRecord {
+    /// Dealing number, from 1.
+    pub dealing: u16,
+    /// Whose part it is.
+    pub holder: u16,
+}
+
+/// A PV record.
+#[derive(Clone, Copy, Debug, PartialEq, Eq, Hash)]
+pub struct PairValueRecord {
+    /// Dealing number, from 1.
+    pub dealing: u16,
+    /// The holder that sends the value.
+    pub sender: u16,
+    /// The holder that receives it.
+    pub receiver: u16,
+    /// The value.
+    pub value: u16,
+}
+
+/// A VD record.
+#[derive(Clone, Copy, Debug, PartialEq, Eq, Hash)]
+pub struct VerdictRecord {
+    /// Dealing number, from 1.
+    pub dealing: u16,
+    /// The holder that says it.
+    pub holder: u16,
+    /// What it says.
+    pub verdict: Verdict,
+}
+
+/// An SH record.
+#[derive(Clone, Copy, Debug, PartialEq, Eq, Hash)]
+pub struct ShareRecord {
+    /// Dealing number; 0 marks a combination.
+    pub dealing: u16,
+    /// Whose share it is.
+    pub holder: u16,
+    /// The column; 0 for a combination.
+    pub column: u16,
+    /// The share.
+    pub value: u16,
+}
+
+/// The four numbers of a setup. Any numbers may stand here; a call refuses those beyond the limits.
+#[derive(Clone, Copy, Debug, PartialEq, Eq, Hash)]
+pub struct Setup {
+    /// The prime, one of [`PRIMES`].
+    pub p: u16,
+    /// ℓ, the secret length, 1 to 8.
+    pub l: u16,
+    /// The randomness length, 1 to 8.
+    pub e: u16,
+    /// The holders, 1 to 32.
+    pub n: u16,
+}
+
+/// Lengths of slices.
+impl Setup {
+    /// d = ℓ + e, the length of a row of the matrix, of g and of h.
+    pub fn d(&self) -> usize {
+        self.l as usize + self.e as usize
+    }
+
+    /// n · d, the length of the matrix and of all row or column parts together.
+    pub fn entries(&self) -> usize {
+        self.n as usize * self.d()
+    }
+
+    /// ℓ · ℓ, the secrets of a dealing.
+    pub fn secrets(&self) -> usize {
+        self.l as usize * self.l as usize
+    }
+
+    /// d · d − ℓ · ℓ, the random entries of a dealing.
+    pub fn random(&self) -> usize {
+        self.d() * self.d() - self.secrets()
+    }
+
+    /// Bytes of an SU record.
+    pub fn setup_bytes(&self) -> usize {
+        10 + 2 * self.entries()
+    }
+
+    /// Bytes of a DL record.
+    pub fn dealing_bytes(&self) -> usize {
+        6 + 4 * self.d()
+    }
+}
+
+// In each unsafe block below: a pointer and its length come from one slice, or the pointer from a local; Rust's borrows exclude that what a call
+// writes overlaps anything else; an empty slice has a non-null, aligned pointer. The library looks at nothing else and keeps no pointer.
+
+/// Dealing.
+impl Setup {
+    /// Writes the points matrix, n · d entries: from the values of a polynomial of degree below d at 0, .., d − 1, row i gives its value at d + i.
+    /// Any d holders then determine the secrets. Refusals 1, 2, 3, 15.
+    pub fn points(&self, matrix: &mut [u16]) -> Result<(), Refusal> {
+        let Setup { p, l, e, n } = *self;
+        answer(unsafe { raw::mavdrusek_points(p, l, e, n, matrix.as_mut_ptr(), matrix.len()) }, 0)
+    }
+
+    /// Writes one holder's part of a dealing, g and h with d entries each. `secrets` has ℓ · ℓ elements, position k of secret vector b at
+    /// b · ℓ + k; `random` has d · d − ℓ · ℓ elements, which the caller draws evenly from a secure source. Refusals 1 to 5.
+    pub fn deal(&self, matrix: &[u16], secrets: &[u16], random: &[u16], holder: u16, g: &mut [u16], h: &mut [u16]) -> Result<(), Refusal> {
+        let Setup { p, l, e, n } = *self;
+        let number = unsafe {
+            raw::mavdrusek_deal(
+                p,
+                l,
+                e,
+                n,
+                matrix.as_ptr(),
+                matrix.len(),
+                secrets.as_ptr(),
+                secrets.len(),
+                random.as_ptr(),
+                random.len(),
+                holder,
+                g.as_mut_ptr(),
+                g.len(),
+                h.as_mut_ptr(),
+                h.len(),
+            )
+        };
+        answer(number, 0)
+    }
+
+    /// Writes every holder's part: holder i's g and h at i · d of `gs` and `hs`, n · d entries each. Refusals 1 to 4.
+    pub fn deal_all(&self, matrix: &[u16], secrets: &[u16], random: &[u16], gs: &mut [u16], hs: &mut [u16]) -> Result<(), Refusal> {
+        let Setup { p, l, e, n } = *self;
+        let number = unsafe {
+            raw::mavdrusek_deal_all(
+                p,
+                l,
+                e,
+                n,
+                matrix.as_ptr(),
+                matrix.len(),
+                secrets.as_ptr(),
+                secrets.len(),
+                random.as_ptr(),
+                random.len(),
+                gs.as_mut_ptr(),
+                gs.len(),
+                hs.as_mut_ptr(),
+                hs.len(),
+            )
+        };
+        answer(number, 0)
+    }
+}
+
+/// Judging.
+impl Setup {
+    /// The value that the holder with row part `g` sends to holder `to`. Every holder sends one to every holder, itself included. Refusals 1 to 5.
+    pub fn pair_value(&self, matrix: &[u16], g: &[u16], to: u16) -> Result<u16, Refusal> {
+        let Setup { p, l, e, n } = *self;
+        let mut value = 0;
+        let number = unsafe { raw::mavdrusek_pair_value(p, l, e, n, matrix.as_ptr(), matrix.len(), g.as_ptr(), g.len(), to, &mut value) };
+        answer(number, 0)?;
+        Ok(value)
+    }
+
+    /// The judgement of the holder with column part `h` on the n values that it received, by sender. Refusals 1 to 4.
+    pub fn judge(&self, matrix: &[u16], h: &[u16], values: &[u16]) -> Result<Judgement, Refusal> {
+        let Setup { p, l, e, n } = *self;
+        let (mut verdict, mut named) = (0, 0);
+        let number = unsafe {
+            raw::mavdrusek_judge(
+                p,
+                l,
+                e,
+                n,
+                matrix.as_ptr(),
+                matrix.len(),
+                h.as_ptr(),
+                h.len(),
+                values.as_ptr(),
+                values.len(),
+                &mut verdict,
+                &mut named,
+            )
+        };
+        answer(number, 0)?;
+        Ok(if verdict == 1 { Judgement::Accept } else { Judgement::Reject(named) })
+    }
+
+    /// The outcome for the holder with row part `g` on the n verdicts that it received, by holder. If it is kept, the ℓ shares are written, one for
+    /// each column; if it is aborted, `shares` stays as it was. Refusals 1 to 4.
+    pub fn outcome(&self, g: &[u16], verdicts: &[Verdict], shares: &mut [u16]) -> Result<Outcome, Refusal> {
+        let Setup { p, l, e, n } = *self;
+        let (mut kept, mut named) = (0, 0);
+        // A Verdict is laid out as a u16, with the numbers that the library takes.
+        let number = unsafe {
+            raw::mavdrusek_outcome(
+                p,
+                l,
+                e,
+                n,
+                g.as_ptr(),
+                g.len(),
+                verdicts.as_ptr().cast::<u16>(),
+                verdicts.len(),
+                shares.as_mut_ptr(),
+                shares.len(),
+                &mut kept,
+                &mut named,
+            )
+        };
+        answer(number, 0)?;
+        Ok(if kept == 1 { Outcome::Kept } else { Outcome::Aborted(named) })
+    }
+
+    /// The dealer's rehearsal on all parts, laid out as [`Setup::deal_all`] writes them. Refusals 1 to 4.
+    pub fn rehearse(&self, matrix: &[u16], gs: &[u16], hs: &[u16]) -> Result<Rehearsal, Refusal> {
+        let Setup { p, l, e, n } = *self;
+        let (mut fair, mut checker, mut sender) = (0, 0, 0);
+        let number = unsafe {
+            raw::mavdrusek_rehearse(
+                p,
+                l,
+                e,
+                n,
+                matrix.as_ptr(),
+                matrix.len(),
+                gs.as_ptr(),
+                gs.len(),
+                hs.as_ptr(),
+                hs.len(),
+                &mut fair,
+                &mut checker,
+                &mut sender,
+            )
+        };
+        answer(number, 0)?;
+        Ok(if fair == 1 { Rehearsal::Fair } else { Rehearsal::Disagree { checker, sender } })
+    }
+}
+
+/// Sets and openings.
+impl Setup {
+    /// Whether the set determines the secrets. Refusals 1 to 5.
+    pub fn determines(&self, matrix: &[u16], set: u32) -> Result<bool, Refusal> {
+        let Setup { p, l, e, n } = *self;
+        let mut yes = 0;
+        answer(unsafe { raw::mavdrusek_determines(p, l, e, n, matrix.as_ptr(), matrix.len(), set, &mut yes) }, 0)?;
+        Ok(yes == 1)
+    }
+
+    /// Whether the set is called private, that is, has at most e members. Refusals 1 to 5.
+    pub fn private(&self, matrix: &[u16], set: u32) -> Result<bool, Refusal> {
+        let Setup { p, l, e, n } = *self;
+        let mut yes = 0;
+        answer(unsafe { raw::mavdrusek_private(p, l, e, n, matrix.as_ptr(), matrix.len(), set, &mut yes) }, 0)?;
+        Ok(yes == 1)
+    }
+
+    /// The judgement of a set at a position below ℓ. `out`, [`SET_ENTRIES`] entries, receives a reconstruction row by rising holder or a sweeping
+    /// vector of d entries, then zeros; for neither, zeros. Refusals 1 to 5.
+    pub fn judge_set(&self, matrix: &[u16], set: u32, position: u16, out: &mut [u16]) -> Result<SetKind, Refusal> {
+        let Setup { p, l, e, n } = *self;
+        let mut kind = 0;
+        let number = unsafe {
+            raw::mavdrusek_judge_set(p, l, e, n, matrix.as_ptr(), matrix.len(), set, position, out.as_mut_ptr(), out.len(), &mut kind)
+        };
+        answer(number, 0)?;
+        Ok(match kind {
+            1 => SetKind::Row,
+            2 => SetKind::Vector,
+            _ => SetKind::Neither,
+        })
+    }
+
+    /// Opens the set's shares of one column or combination, by rising holder, into ℓ secrets. Refusals 1 to 7.
+    pub fn open(&self, matrix: &[u16], set: u32, shares: &[u16], secrets: &mut [u16]) -> Result<(), Refusal> {
+        let Setup { p, l, e, n } = *self;
+        let mut position = 0;
+        let number = unsafe {
+            raw::mavdrusek_open(
+                p,
+                l,
+                e,
+                n,
+                matrix.as_ptr(),
+                matrix.len(),
+                set,
+                shares.as_ptr(),
+                shares.len(),
+                secrets.as_mut_ptr(),
+                secrets.len(),
+                &mut position,
+            )
+        };
+        answer(number, position)
+    }
+}
+
+/// Writing records, each into a slice of just its length.
+impl Setup {
+    /// Writes an SU, [`Setup::setup_bytes`] bytes. Refusals 1 to 4.
+    pub fn write_setup(&self, matrix: &[u16], out: &mut [u8]) -> Result<(), Refusal> {
+        let Setup { p, l, e, n } = *self;
+        answer(unsafe { raw::mavdrusek_write_setup(p, l, e, n, matrix.as_ptr(), matrix.len(), out.as_mut_ptr(), out.len()) }, 0)
+    }
+
+    /// Writes a DL, [`Setup::dealing_bytes`] bytes; g and h have d entries each. Refusals 1 to 5, 9.
+    pub fn write_dealing(&self, record: DealingRecord, g: &[u16], h: &[u16], out: &mut [u8]) -> Result<(), Refusal> {
+        let Setup { p, l, e, n } = *self;
+        let number = unsafe {
+            raw::mavdrusek_write_dealing(
+                p,
+                l,
+                e,
+                n,
+                record.dealing,
+                record.holder,
+                g.as_ptr(),
+                g.len(),
+                h.as_ptr(),
+                h.len(),
+                out.as_mut_ptr(),
+                out.len(),
+            )
+        };
+        answer(number, 0)
+    }
+
+    /// Writes a PV, [`PAIR_VALUE_BYTES`] bytes. Refusals 1 to 5, 9.
+    pub fn write_pair_value(&self, record: PairValueRecord, out: &mut [u8]) -> Result<(), Refusal> {
+        let Setup { p, l, e, n } = *self;
+        let PairValueRecord { dealing, sender, receiver, value } = record;
+        answer(unsafe { raw::mavdrusek_write_pair_value(p, l, e, n, dealing, sender, receiver, value, out.as_mut_ptr(), out.len()) }, 0)
+    }
+
+    /// Writes a VD, [`VERDICT_BYTES`] bytes. Refusals 1, 2, 3, 5, 9.
+    pub fn write_verdict(&self, record: VerdictRecord, out: &mut [u8]) -> Result<(), Refusal> {
+        let Setup { p, l, e, n } = *self;
+        let VerdictRecord { dealing, holder, verdict } = record;
+        answer(unsafe { raw::mavdrusek_write_verdict(p, l, e, n, dealing, holder, verdict as u16, out.as_mut_ptr(), out.len()) }, 0)
+    }
+
+    /// Writes an SH, [`SHARE_BYTES`] bytes. Refusals 1 to 5.
+    pub fn write_share(&self, record: ShareRecord, out: &mut [u8]) -> Result<(), Refusal> {
+        let Setup { p, l, e, n } = *self;
+        let ShareRecord { dealing, holder, column, value } = record;
+        answer(unsafe { raw::mavdrusek_write_share(p, l, e, n, dealing, holder, column, value, out.as_mut_ptr(), out.len()) }, 0)
+    }
+}
+
+/// Reading records. A reader looks at one record at the start of `part`; bytes behind it are not looked at.
+impl Setup {
+    /// The four numbers of an SU whose matrix is not cut short. Refusals 1, 2, 3, 8.
+    pub fn read_setup(part: &[u8]) -> Result<Setup, Refusal> {
+        let mut s = Setup { p: 0, l: 0, e: 0, n: 0 };
+        answer(unsafe { raw::mavdrusek_read_setup_head(part.as_ptr(), part.len(), &mut s.p, &mut s.l, &mut s.e, &mut s.n) }, 0)?;
+        Ok(s)
+    }
+
+    /// Reads a DL; g and h have d entries each. Refusals 1 to 5, 8, 9.
+    pub fn read_dealing(&self, part: &[u8], g: &mut [u16], h: &mut [u16]) -> Result<DealingRecord, Refusal> {
+        let Setup { p, l, e, n } = *self;
+        let (mut dealing, mut holder) = (0, 0);
+        let number = unsafe {
+            raw::mavdrusek_read_dealing(
+                p,
+                l,
+                e,
+                n,
+                part.as_ptr(),
+                part.len(),
+                g.as_mut_ptr(),
+                g.len(),
+                h.as_mut_ptr(),
+                h.len(),
+                &mut dealing,
+                &mut holder,
+            )
+        };
+        answer(number, 0)?;
+        Ok(DealingRecord { dealing, holder })
+    }
+
+    /// Reads a PV. Refusals 1 to 5, 8, 9.
+    pub fn read_pair_value(&self, part: &[u8]) -> Result<PairValueRecord, Refusal> {
+        let Setup { p, l, e, n } = *self;
+        let (mut dealing, mut sender, mut receiver, mut value) = (0, 0, 0, 0);
+        let number = unsafe {
+            raw::mavdrusek_read_pair_value(p, l, e, n, part.as_ptr(), part.len(), &mut dealing, &mut sender, &mut receiver, &mut value)
+        };
+        answer(number, 0)?;
+        Ok(PairValueRecord { dealing, sender, receiver, value })
+    }
+
+    /// Reads a VD. Refusals 1, 2, 3, 5, 8, 9, 12.
+    pub fn read_verdict(&self, part: &[u8]) -> Result<VerdictRecord, Refusal> {
+        let Setup { p, l, e, n } = *self;
+        let (mut dealing, mut holder, mut verdict) = (0, 0, 0);
+        let number = unsafe { raw::mavdrusek_read_verdict(p, l, e, n, part.as_ptr(), part.len(), &mut dealing, &mut holder, &mut verdict) };
+        answer(number, 0)?;
+        let verdict = if verdict == 1 { Verdict::Accept } else { Verdict::Reject };
+        Ok(VerdictRecord { dealing, holder, verdict })
+    }
+
+    /// Reads an SH. Refusals 1 to 5, 8.
+    pub fn read_share(&self, part: &[u8]) -> Result<ShareRecord, Refusal> {
+        let Setup { p, l, e, n } = *self;
+        let (mut dealing, mut holder, mut column, mut value) = (0, 0, 0, 0);
+        let number =
+            unsafe { raw::mavdrusek_read_share(p, l, e, n, part.as_ptr(), part.len(), &mut dealing, &mut holder, &mut column, &mut value) };
+        answer(number, 0)?;
+        Ok(ShareRecord { dealing, holder, column, value })
+    }
+}
+
+/// Reads the matrix of an SU into `matrix`, as many entries as [`Setup::read_setup`] and [`Setup::entries`] say. Refusals 1 to 4, 8.
+pub fn read_setup_matrix(part: &[u8], matrix: &mut [u16]) -> Result<(), Refusal> {
+    answer(unsafe { raw::mavdrusek_read_setup_matrix(part.as_ptr(), part.len(), matrix.as_mut_ptr(), matrix.len()) }, 0)
+}
+
+/// Whether there is a field of p elements. Refusal 1.
+pub fn field(p: u16) -> Result<(), Refusal> {
+    answer(unsafe { raw::mavdrusek_field(p) }, 0)
+}
+
+/// The sum of the products of constants and one holder's shares, 1 to 64 of each: its share of that combination of columns. Refusals 1, 3, 4, 14.
+pub fn combine(p: u16, constants: &[u16], shares: &[u16]) -> Result<u16, Refusal> {
+    let mut value = 0;
+    let number = unsafe { raw::mavdrusek_combine(p, constants.as_ptr(), constants.len(), shares.as_ptr(), shares.len(), &mut value) };
+    answer(number, 0)?;
+    Ok(value)
+}
+
+/// What the holder program prints for a holder's file of at most [`MOST_FILE_BYTES`] bytes, in `out`, [`REPORT_BYTES`] bytes. A faulty file is no
+/// refusal of the call: its text says so. Refusal 3.
+///
+/// ```
+/// let mut out = [0; mavdrusek::REPORT_BYTES];
+/// assert_eq!(mavdrusek::holder_file(b"", &mut out)?, "refused 11 at 0\n");
+/// # Ok::<(), mavdrusek::Refusal>(())
+/// ```
+pub fn holder_file<'a>(file: &[u8], out: &'a mut [u8]) -> Result<&'a str, Refusal> {
+    let mut count = 0;
+    let number = unsafe { raw::mavdrusek_holder_file(file.as_ptr(), file.len(), out.as_mut_ptr(), out.len(), &mut count) };
+    answer(number, 0)?;
+    Ok(std::str::from_utf8(&out[..count]).expect("the library prints letters, digits, spaces and line ends"))
+}

@@ -1,0 +1,80 @@
+//! Each record is written, read back as itself, and has the bytes that document 01 gives it; bytes behind a record are not looked at.
+
+use mavdrusek::*;
+
+const SETUP: Setup = Setup { p: 257, l: 2, e: 1, n: 4 };
+
+fn matrix() -> Vec<u16> {
+    let mut matrix = vec![0; SETUP.entries()];
+    SETUP.points(&mut matrix).unwrap();
+    matrix
+}
+
+fn followed(record: &[u8]) -> Vec<u8> {
+    [record, b"behind it"].concat()
+}
+
+#[test]
+fn setup() {
+    let matrix = matrix();
+    let mut out = vec![0; SETUP.setup_bytes()];
+    SETUP.write_setup(&matrix, &mut out).unwrap();
+    assert_eq!(&out[..10], b"SU\x01\x01\x02\0\x01\0\x04\0");
+    for part in [out.clone(), followed(&out)] {
+        assert_eq!(Setup::read_setup(&part), Ok(SETUP));
+        let mut back = vec![0; SETUP.entries()];
+        assert_eq!(read_setup_matrix(&part, &mut back), Ok(()));
+        assert_eq!(back, matrix);
+    }
+}
+
+#[test]
+fn dealing() {
+    let record = DealingRecord { dealing: 65535, holder: 3 };
+    let (g, h) = ([0, 1, 256], [255, 128, 7]);
+    let mut out = vec![0; SETUP.dealing_bytes()];
+    SETUP.write_dealing(record, &g, &h, &mut out).unwrap();
+    assert_eq!(out, b"DL\xff\xff\x03\0\0\0\x01\0\0\x01\xff\0\x80\0\x07\0");
+    for part in [out.clone(), followed(&out)] {
+        let (mut back_g, mut back_h) = ([9; 3], [9; 3]);
+        assert_eq!(SETUP.read_dealing(&part, &mut back_g, &mut back_h), Ok(record));
+        assert_eq!((back_g, back_h), (g, h));
+    }
+    assert_eq!(SETUP.read_dealing(&out[..17], &mut [9; 3], &mut [9; 3]), Err(Refusal::Length));
+}
+
+#[test]
+fn pair_value() {
+    for value in [0, 1, 255, 256] {
+        let record = PairValueRecord { dealing: 1, sender: 2, receiver: 3, value };
+        let mut out = [0; PAIR_VALUE_BYTES];
+        SETUP.write_pair_value(record, &mut out).unwrap();
+        assert_eq!(&out[..8], b"PV\x01\0\x02\0\x03\0");
+        assert_eq!(SETUP.read_pair_value(&out), Ok(record));
+        assert_eq!(SETUP.read_pair_value(&followed(&out)), Ok(record));
+    }
+}
+
+#[test]
+fn verdict() {
+    for verdict in [Verdict::Accept, Verdict::Reject] {
+        let record = VerdictRecord { dealing: 258, holder: 3, verdict };
+        let mut out = [0; VERDICT_BYTES];
+        SETUP.write_verdict(record, &mut out).unwrap();
+        assert_eq!(out, [b'V', b'D', 2, 1, 3, 0, verdict as u8, 0]);
+        assert_eq!(SETUP.read_verdict(&out), Ok(record));
+        assert_eq!(SETUP.read_verdict(&followed(&out)), Ok(record));
+    }
+}
+
+#[test]
+fn share() {
+    for record in [ShareRecord { dealing: 9, holder: 3, column: 1, value: 256 }, ShareRecord { dealing: 0, holder: 0, column: 0, value: 5 }]
+    {
+        let mut out = [0; SHARE_BYTES];
+        SETUP.write_share(record, &mut out).unwrap();
+        assert_eq!(&out[..4], &[b'S', b'H', record.dealing as u8, 0]);
+        assert_eq!(SETUP.read_share(&out), Ok(record));
+        assert_eq!(SETUP.read_share(&followed(&out)), Ok(record));
+    }
+}

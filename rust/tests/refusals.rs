@@ -1,0 +1,202 @@
+//! Each refusal, and that a declined call leaves what it was lent.
+
+use mavdrusek::*;
+
+const SETUP: Setup = Setup { p: 7, l: 1, e: 1, n: 3 };
+const MATRIX: [u16; 6] = [6, 2, 5, 3, 4, 4];
+
+#[test]
+fn numbers() {
+    let all = [
+        (Refusal::NoField, 1),
+        (Refusal::Limits, 2),
+        (Refusal::Length, 3),
+        (Refusal::Element, 4),
+        (Refusal::Range, 5),
+        (Refusal::Undetermined { position: 3 }, 6),
+        (Refusal::Inconsistent, 7),
+        (Refusal::Mark, 8),
+        (Refusal::DealingNumber, 9),
+        (Refusal::NoVerdict, 12),
+        (Refusal::NoTerms, 14),
+        (Refusal::TooFewPoints, 15),
+    ];
+    for (refusal, number) in all {
+        assert_eq!(refusal.number(), number);
+        assert!(refusal.to_string().starts_with(&format!("refused {number}: ")));
+    }
+}
+
+#[test]
+fn no_field() {
+    for p in PRIMES {
+        assert_eq!(field(p), Ok(()));
+    }
+    for p in [0, 1, 3, 8, 256, 65535] {
+        assert_eq!(field(p), Err(Refusal::NoField));
+        assert_eq!(combine(p, &[1], &[1]), Err(Refusal::NoField));
+    }
+    // 1 comes before all that is wrong beside it.
+    let wrong = Setup { p: 0, l: 0, e: 65535, n: 65535 };
+    assert_eq!(wrong.points(&mut []), Err(Refusal::NoField));
+    assert_eq!(wrong.open(&[], 0, &[], &mut []), Err(Refusal::NoField));
+}
+
+#[test]
+fn limits() {
+    for (l, e, n) in [(0, 1, 1), (9, 1, 1), (1, 0, 1), (1, 9, 1), (1, 1, 0), (1, 1, 33), (65535, 65535, 65535)] {
+        let wrong = Setup { p: 257, l, e, n };
+        assert_eq!(wrong.points(&mut []), Err(Refusal::Limits));
+        assert_eq!(wrong.deal(&[], &[], &[], 0, &mut [], &mut []), Err(Refusal::Limits));
+        assert_eq!(wrong.deal_all(&[], &[], &[], &mut [], &mut []), Err(Refusal::Limits));
+        assert_eq!(wrong.pair_value(&[], &[], 0), Err(Refusal::Limits));
+        assert_eq!(wrong.judge(&[], &[], &[]), Err(Refusal::Limits));
+        assert_eq!(wrong.outcome(&[], &[], &mut []), Err(Refusal::Limits));
+        assert_eq!(wrong.rehearse(&[], &[], &[]), Err(Refusal::Limits));
+        assert_eq!(wrong.determines(&[], 0), Err(Refusal::Limits));
+        assert_eq!(wrong.private(&[], 0), Err(Refusal::Limits));
+        assert_eq!(wrong.judge_set(&[], 0, 0, &mut []), Err(Refusal::Limits));
+        assert_eq!(wrong.open(&[], 0, &[], &mut []), Err(Refusal::Limits));
+        assert_eq!(wrong.write_setup(&[], &mut []), Err(Refusal::Limits));
+        assert_eq!(wrong.read_verdict(&[]), Err(Refusal::Limits));
+    }
+}
+
+/// Every call on a sound setup with empty slices.
+#[test]
+fn empty_slices() {
+    assert_eq!(SETUP.points(&mut []), Err(Refusal::Length));
+    assert_eq!(SETUP.deal(&[], &[], &[], 0, &mut [], &mut []), Err(Refusal::Length));
+    assert_eq!(SETUP.deal_all(&[], &[], &[], &mut [], &mut []), Err(Refusal::Length));
+    assert_eq!(SETUP.pair_value(&[], &[], 0), Err(Refusal::Length));
+    assert_eq!(SETUP.judge(&[], &[], &[]), Err(Refusal::Length));
+    assert_eq!(SETUP.outcome(&[], &[], &mut []), Err(Refusal::Length));
+    assert_eq!(SETUP.rehearse(&[], &[], &[]), Err(Refusal::Length));
+    assert_eq!(SETUP.determines(&[], 0), Err(Refusal::Length));
+    assert_eq!(SETUP.private(&[], 0), Err(Refusal::Length));
+    assert_eq!(SETUP.judge_set(&[], 0, 0, &mut []), Err(Refusal::Length));
+    assert_eq!(SETUP.open(&[], 0, &[], &mut []), Err(Refusal::Length));
+    assert_eq!(SETUP.write_setup(&[], &mut []), Err(Refusal::Length));
+    assert_eq!(SETUP.write_dealing(DealingRecord { dealing: 1, holder: 0 }, &[], &[], &mut []), Err(Refusal::Length));
+    let pair = PairValueRecord { dealing: 1, sender: 0, receiver: 0, value: 0 };
+    assert_eq!(SETUP.write_pair_value(pair, &mut []), Err(Refusal::Length));
+    let verdict = VerdictRecord { dealing: 1, holder: 0, verdict: Verdict::Accept };
+    assert_eq!(SETUP.write_verdict(verdict, &mut []), Err(Refusal::Length));
+    let share = ShareRecord { dealing: 1, holder: 0, column: 0, value: 0 };
+    assert_eq!(SETUP.write_share(share, &mut []), Err(Refusal::Length));
+    assert_eq!(Setup::read_setup(&[]), Err(Refusal::Length));
+    assert_eq!(read_setup_matrix(&[], &mut []), Err(Refusal::Length));
+    assert_eq!(SETUP.read_dealing(&[], &mut [], &mut []), Err(Refusal::Length));
+    assert_eq!(SETUP.read_pair_value(&[]), Err(Refusal::Length));
+    assert_eq!(SETUP.read_verdict(&[]), Err(Refusal::Length));
+    assert_eq!(SETUP.read_share(&[]), Err(Refusal::Length));
+    assert_eq!(holder_file(&[], &mut []), Err(Refusal::Length));
+    assert_eq!(combine(7, &[], &[]), Err(Refusal::NoTerms));
+}
+
+/// One entry too many or too few in one slice at a time.
+#[test]
+fn lengths() {
+    let m = MATRIX;
+    let (mut two, mut six) = ([9; 2], [9; 6]);
+    for wrong in [5, 7] {
+        assert_eq!(SETUP.points(&mut vec![9; wrong]), Err(Refusal::Length));
+        let given = vec![0; wrong];
+        assert_eq!(SETUP.deal(&given, &[3], &[1, 5, 2], 0, &mut two, &mut [0; 2]), Err(Refusal::Length));
+        assert_eq!(SETUP.deal_all(&m, &[3], &[1, 5, 2], &mut six, &mut vec![0; wrong]), Err(Refusal::Length));
+        assert_eq!(SETUP.deal_all(&m, &[3], &[1, 5, 2], &mut vec![0; wrong], &mut six), Err(Refusal::Length));
+        assert_eq!(SETUP.rehearse(&m, &given, &m), Err(Refusal::Length));
+        assert_eq!(SETUP.rehearse(&m, &m, &given), Err(Refusal::Length));
+    }
+    assert_eq!(SETUP.deal(&m, &[], &[1, 5, 2], 0, &mut two, &mut [0; 2]), Err(Refusal::Length));
+    assert_eq!(SETUP.deal(&m, &[3], &[1, 5], 0, &mut two, &mut [0; 2]), Err(Refusal::Length));
+    assert_eq!(SETUP.deal(&m, &[3], &[1, 5, 2], 0, &mut two, &mut [0; 3]), Err(Refusal::Length));
+    assert_eq!((two, six), ([9; 2], [9; 6]));
+    assert_eq!(SETUP.judge(&m, &[4, 3], &[2, 1]), Err(Refusal::Length));
+    assert_eq!(SETUP.outcome(&[2, 4], &[Verdict::Accept; 4], &mut [9]), Err(Refusal::Length));
+    assert_eq!(SETUP.judge_set(&m, 0b101, 0, &mut [9; 31]), Err(Refusal::Length));
+    assert_eq!(SETUP.open(&m, 0b101, &[0, 2, 4], &mut [9]), Err(Refusal::Length));
+    assert_eq!(combine(7, &[1; 65], &[1; 65]), Err(Refusal::Length));
+    assert_eq!(combine(7, &[1; 64], &[1; 64]), Ok(1));
+    assert_eq!(combine(7, &[], &[1]), Err(Refusal::Length));
+    assert_eq!(holder_file(&[0; 4097], &mut [0; REPORT_BYTES]), Err(Refusal::Length));
+    assert_eq!(holder_file(&[0; 4096], &mut [0; REPORT_BYTES]), Ok("refused 8 at 0\n"));
+}
+
+#[test]
+fn elements() {
+    let m = MATRIX;
+    let high = [6, 2, 5, 3, 4, 7];
+    let (mut g, mut h) = ([9; 2], [9; 2]);
+    assert_eq!(SETUP.deal(&high, &[3], &[1, 5, 2], 0, &mut g, &mut h), Err(Refusal::Element));
+    assert_eq!(SETUP.deal(&m, &[7], &[1, 5, 2], 0, &mut g, &mut h), Err(Refusal::Element));
+    assert_eq!(SETUP.deal(&m, &[3], &[1, 5, 65535], 0, &mut g, &mut h), Err(Refusal::Element));
+    assert_eq!((g, h), ([9; 2], [9; 2]));
+    assert_eq!(SETUP.pair_value(&m, &[0, 7], 0), Err(Refusal::Element));
+    assert_eq!(SETUP.judge(&m, &[4, 3], &[2, 1, 7]), Err(Refusal::Element));
+    assert_eq!(SETUP.outcome(&[2, 7], &[Verdict::Accept; 3], &mut [9]), Err(Refusal::Element));
+    assert_eq!(SETUP.rehearse(&m, &m, &high), Err(Refusal::Element));
+    assert_eq!(SETUP.determines(&high, 0b111), Err(Refusal::Element));
+    assert_eq!(SETUP.open(&m, 0b101, &[0, 7], &mut [9]), Err(Refusal::Element));
+}
+
+#[test]
+fn ranges() {
+    let m = MATRIX;
+    assert_eq!(SETUP.deal(&m, &[3], &[1, 5, 2], 3, &mut [0; 2], &mut [0; 2]), Err(Refusal::Range));
+    assert_eq!(SETUP.pair_value(&m, &[0, 3], 3), Err(Refusal::Range));
+    assert_eq!(SETUP.determines(&m, 0b1000), Err(Refusal::Range));
+    assert_eq!(SETUP.private(&m, 1 << 31), Err(Refusal::Range));
+    let mut out = [9; 32];
+    assert_eq!(SETUP.judge_set(&m, 0b101, 1, &mut out), Err(Refusal::Range));
+    assert_eq!(out, [9; 32]);
+    assert_eq!(SETUP.open(&m, 0b1001, &[0, 4], &mut [9]), Err(Refusal::Range));
+    let share = ShareRecord { dealing: 0, holder: 0, column: 1, value: 0 };
+    let two = Setup { l: 2, ..SETUP };
+    assert_eq!(two.write_share(share, &mut [0; SHARE_BYTES]), Err(Refusal::Range));
+    assert_eq!(two.write_share(ShareRecord { dealing: 1, ..share }, &mut [0; SHARE_BYTES]), Ok(()));
+}
+
+/// The lowest position with no row: of two unit rows among three positions the second is left out.
+#[test]
+fn undetermined() {
+    let setup = Setup { p: 257, l: 3, e: 1, n: 3 };
+    let matrix = [1, 0, 0, 0, 0, 0, 1, 0, 0, 1, 0, 0];
+    let mut secrets = [9; 3];
+    assert_eq!(setup.open(&matrix, 0b011, &[5, 6], &mut secrets), Err(Refusal::Undetermined { position: 1 }));
+    assert_eq!(secrets, [9; 3]);
+    assert_eq!(setup.open(&matrix, 0b111, &[5, 6, 7], &mut secrets), Ok(()));
+    assert_eq!(secrets, [5, 7, 6]);
+}
+
+#[test]
+fn points() {
+    let setup = Setup { p: 2, l: 1, e: 1, n: 1 };
+    let mut matrix = [9; 2];
+    assert_eq!(setup.points(&mut matrix), Err(Refusal::TooFewPoints));
+    assert_eq!(matrix, [9; 2]);
+}
+
+#[test]
+fn records() {
+    let mut out = [9; PAIR_VALUE_BYTES];
+    let pair = PairValueRecord { dealing: 0, sender: 0, receiver: 0, value: 0 };
+    assert_eq!(SETUP.write_pair_value(pair, &mut out), Err(Refusal::DealingNumber));
+    assert_eq!(SETUP.write_pair_value(PairValueRecord { value: 7, ..pair }, &mut out), Err(Refusal::Element));
+    assert_eq!(SETUP.write_pair_value(PairValueRecord { receiver: 3, ..pair }, &mut out), Err(Refusal::Range));
+    assert_eq!(out, [9; PAIR_VALUE_BYTES]);
+
+    assert_eq!(SETUP.read_verdict(b"VD\x01\0\x02\0\x02\0"), Err(Refusal::NoVerdict));
+    assert_eq!(SETUP.read_verdict(b"VD\x00\0\x02\0\x02\0"), Err(Refusal::DealingNumber));
+    assert_eq!(SETUP.read_verdict(b"VD\x00\0\x03\0\x02\0"), Err(Refusal::Range));
+    assert_eq!(SETUP.read_verdict(b"VD\x01\0\x02\0\x02"), Err(Refusal::Length));
+    assert_eq!(SETUP.read_verdict(b"VE\x01\0\x02\0\x02"), Err(Refusal::Mark));
+    assert_eq!(SETUP.read_verdict(b"V"), Err(Refusal::Length));
+    assert_eq!(Setup::read_setup(b"SU\x08\0\x01\0\x01\0\x01\0"), Err(Refusal::NoField));
+    assert_eq!(Setup::read_setup(b"SU\x07\0\x01\0\x09\0\x01\0"), Err(Refusal::Limits));
+    assert_eq!(Setup::read_setup(b"SU\x07\0\x01\0\x01\0\x01\0\x01\0\x02"), Err(Refusal::Length));
+    assert_eq!(Setup::read_setup(b"DL"), Err(Refusal::Mark));
+    let mut matrix = [9; 2];
+    assert_eq!(read_setup_matrix(b"SU\x07\0\x01\0\x01\0\x01\0\x01\0\x07\0", &mut matrix), Err(Refusal::Element));
+    assert_eq!(matrix, [9; 2]);
+}

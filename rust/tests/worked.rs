@@ -1,0 +1,121 @@
+//! The worked example of document 01: p 7, ℓ 1, e 1, n 3, points rows (6,2), (5,3), (4,4), F rows (3,1), (5,2).
+
+use mavdrusek::{combine, Judgement, Outcome, Refusal, Rehearsal, SetKind, Setup, Verdict};
+
+const SETUP: Setup = Setup { p: 7, l: 1, e: 1, n: 3 };
+const MATRIX: [u16; 6] = [6, 2, 5, 3, 4, 4];
+const GS: [u16; 6] = [0, 3, 2, 4, 4, 5];
+const HS: [u16; 6] = [6, 6, 4, 3, 2, 0];
+
+#[test]
+fn points() {
+    let mut matrix = [9; 6];
+    assert_eq!(SETUP.points(&mut matrix), Ok(()));
+    assert_eq!(matrix, MATRIX);
+}
+
+#[test]
+fn parts() {
+    let (mut gs, mut hs) = ([9; 6], [9; 6]);
+    assert_eq!(SETUP.deal_all(&MATRIX, &[3], &[1, 5, 2], &mut gs, &mut hs), Ok(()));
+    assert_eq!((gs, hs), (GS, HS));
+    for i in 0..3 {
+        let (mut g, mut h) = ([9; 2], [9; 2]);
+        assert_eq!(SETUP.deal(&MATRIX, &[3], &[1, 5, 2], i as u16, &mut g, &mut h), Ok(()));
+        assert_eq!((&g[..], &h[..]), (&GS[2 * i..2 * i + 2], &HS[2 * i..2 * i + 2]));
+    }
+    assert_eq!(SETUP.rehearse(&MATRIX, &GS, &HS), Ok(Rehearsal::Fair));
+}
+
+#[test]
+fn pair_values_and_judgement() {
+    let values: Vec<u16> = GS.chunks(2).map(|g| SETUP.pair_value(&MATRIX, g, 1).unwrap()).collect();
+    assert_eq!(values, [2, 1, 0]);
+    assert_eq!(SETUP.judge(&MATRIX, &HS[2..4], &values), Ok(Judgement::Accept));
+    assert_eq!(SETUP.judge(&MATRIX, &HS[2..4], &[3, 1, 0]), Ok(Judgement::Reject(0)));
+    assert_eq!(SETUP.judge(&MATRIX, &HS[2..4], &[2, 1, 1]), Ok(Judgement::Reject(2)));
+}
+
+#[test]
+fn outcomes() {
+    let mut share = [9];
+    assert_eq!(SETUP.outcome(&GS[2..4], &[Verdict::Accept; 3], &mut share), Ok(Outcome::Kept));
+    assert_eq!(share, [2]);
+    let mut share = [9];
+    let said = [Verdict::Accept, Verdict::Reject, Verdict::Reject];
+    assert_eq!(SETUP.outcome(&GS[2..4], &said, &mut share), Ok(Outcome::Aborted(1)));
+    assert_eq!(share, [9]);
+}
+
+#[test]
+fn rehearsal_names_the_first_pair() {
+    let mut gs = GS;
+    gs[4] = 5; // holder 2's row part
+    assert_eq!(SETUP.rehearse(&MATRIX, &gs, &HS), Ok(Rehearsal::Disagree { checker: 0, sender: 2 }));
+    let mut hs = HS;
+    hs[3] = 4; // holder 1's column part
+    assert_eq!(SETUP.rehearse(&MATRIX, &GS, &hs), Ok(Rehearsal::Disagree { checker: 1, sender: 0 }));
+}
+
+fn open(set: u32, shares: &[u16]) -> Result<u16, Refusal> {
+    let mut secret = [9];
+    let answer = SETUP.open(&MATRIX, set, shares, &mut secret);
+    if answer.is_err() {
+        assert_eq!(secret, [9]);
+    }
+    answer.map(|()| secret[0])
+}
+
+#[test]
+fn openings() {
+    assert_eq!(open(0b101, &[0, 4]), Ok(3));
+    assert_eq!(open(0b111, &[0, 2, 4]), Ok(3));
+    assert_eq!(open(0b111, &[0, 2, 5]), Err(Refusal::Inconsistent));
+    assert_eq!(open(0b001, &[0]), Err(Refusal::Undetermined { position: 0 }));
+    assert_eq!(open(0, &[]), Err(Refusal::Undetermined { position: 0 }));
+}
+
+#[test]
+fn combinations() {
+    let doubled: Vec<u16> = [0, 2, 4].iter().map(|&share| combine(7, &[2], &[share]).unwrap()).collect();
+    assert_eq!(doubled, [0, 4, 1]);
+    assert_eq!(open(0b111, &doubled), Ok(6));
+    assert_eq!(combine(7, &[1, 6, 3], &[5, 2, 4]), Ok(1)); // 5 + 12 + 12 = 29
+}
+
+#[test]
+fn sets() {
+    let mut out = [9; 32];
+    assert_eq!(SETUP.judge_set(&MATRIX, 0b101, 0, &mut out), Ok(SetKind::Row));
+    assert_eq!((&out[..2], out[2..].iter().max()), (&[2, 6][..], Some(&0)));
+    let mut out = [9; 32];
+    assert_eq!(SETUP.judge_set(&MATRIX, 0b001, 0, &mut out), Ok(SetKind::Vector));
+    assert_eq!((&out[..2], out[2..].iter().max()), (&[1, 4][..], Some(&0)));
+    assert_eq!(SETUP.determines(&MATRIX, 0b101), Ok(true));
+    assert_eq!(SETUP.determines(&MATRIX, 0b001), Ok(false));
+    assert_eq!(SETUP.private(&MATRIX, 0b001), Ok(true));
+    assert_eq!(SETUP.private(&MATRIX, 0b101), Ok(false));
+}
+
+#[test]
+fn neither() {
+    let setup = Setup { p: 7, l: 2, e: 1, n: 1 };
+    for position in 0..2 {
+        let mut out = [9; 32];
+        assert_eq!(setup.judge_set(&[1, 1, 0], 0b1, position, &mut out), Ok(SetKind::Neither));
+        assert_eq!(out, [0; 32]);
+    }
+}
+
+#[test]
+fn limits() {
+    let with = |l: u16, n: u16| {
+        let setup = Setup { p: 257, l, e: 1, n };
+        setup.points(&mut vec![0; setup.entries()])
+    };
+    assert_eq!((with(8, 1), with(9, 1)), (Ok(()), Err(Refusal::Limits)));
+    assert_eq!((with(1, 32), with(1, 33)), (Ok(()), Err(Refusal::Limits)));
+    assert_eq!((combine(7, &[6], &[6]), combine(7, &[6], &[7])), (Ok(1), Err(Refusal::Element)));
+    let points = |n: u16| Setup { n, ..SETUP }.points(&mut vec![0; 2 * n as usize]);
+    assert_eq!((points(5), points(6)), (Ok(()), Err(Refusal::TooFewPoints)));
+}
