@@ -9,7 +9,7 @@ ghost use Rattle.base.specs.Choice.{pick};
 ghost use Rattle.base.specs.Rules.{refusal, refusalFrom, given};
 ghost use Rattle.base.specs.Fill.{filled};
 ghost use Rattle.base.specs.Matrix.{flat};
-ghost use Rattle.field.specs.Prime.{Prime};
+ghost use Rattle.field.specs.Prime.{Prime, Inverses};
 ghost use Rattle.linear.specs.Dot.{dot, along};
 ghost use Rattle.linear.specs.Polynomial.{minus, basis, point};
 ghost use Rattle.scheme.specs.Setup.{setupOf};
@@ -50,12 +50,13 @@ fn basis_at(p: u16, d: usize, j: usize, x: usize) -> u16
 }
 
 // The inverse of the basis of node j at its own node: what every row multiplies its entry j by.
-fn weight(p: u16, d: usize, j: usize) -> u16
+fn weight(table: &[u16; 257], p: u16, d: usize, j: usize) -> u16
     requires { ⌜ (d ≤ 16) × (j ≤ 16) ⌝ }
     requires { ⌜ Prime p ⌝ }
+    requires { ⌜ Inverses (now table) ⌝ }
     ensures { λ r. ⌜ r ≡ weightOf p d j ⌝ }
 {
-    field::inverse(p, basis_at(p, d, j, j))
+    field::inverse_by(table, p, basis_at(p, d, j, j))
 }
 
 // The weights of the d nodes, then zeros: worked out once for all rows.
@@ -64,10 +65,11 @@ fn weights(p: u16, d: usize) -> [u16; 16]
     requires { ⌜ Prime p ⌝ }
     ensures { λ r. ⌜ r ≡ weightsOf p d ⌝ }
 {
+    let table = field::inverses();
     let mut entries = [0u16; 16];
     let mut j = 0;
     while j < d {
-        entries[j] = weight(p, d, j);
+        entries[j] = weight(&table, p, d, j);
         j += 1;
     }
     entries

@@ -1,10 +1,10 @@
 -- The first k entries of row b are written.
-use lib.ListN.{length, getD, set, length-set}
-use borrow.Author.Needs.{needs}
-use native.Mathlib.Omega.{arith}
+use Prim.Native.Nat.{_+_, _-_, _*_, _≤_}
 use mathlib.Core.Path.{_≡_, ap₂}
-use Prim.Native.Nat.{ℕ, _+_, _-_, _*_, _/_, _%_, _≤_, _<_}
 use native.Mathlib.Nat.{le-antisymm}
+use native.Mathlib.Omega.{arith}
+use borrow.Author.Needs.{needs}
+use lib.ListN.{length, length-set}
 use Rattle.dealing.specs.Put.{put}
 use Rattle.dealing.specs.Pairs.{pairOf}
 use Rattle.dealing.proofs.Put.{put-none, put-store}

@@ -1,10 +1,9 @@
 -- The sum so far is the product of the entries passed, at most 256 * 1099511628032 for each.
-use lib.ListN.{length, getD, set, length-set}
-use borrow.Author.Needs.{needs}
-use native.Mathlib.Omega.{arith}
-use mathlib.Core.Path.{_≡_, refl, sym, ap, _∙_}
-use Prim.Native.Nat.{ℕ, _+_, _-_, _*_, _/_, _%_, _≤_, _<_}
+use Prim.Native.Nat.{ℕ, _+_, _-_, _*_, _≤_}
+use mathlib.Core.Path.{_≡_, refl}
 use native.Mathlib.Nat.{mul-le-mul, mul-one, le-antisymm}
+use native.Mathlib.Omega.{arith}
+use borrow.Author.Needs.{needs}
 use Rattle.base.specs.Sum.{sum}
 use Rattle.linear.specs.Dot.{dot, along}
 use Rattle.linear.proofs.Dot.{dot-step}

@@ -11,12 +11,12 @@ use Rattle.dealing.proofs.weight.Tie as tie
 basis-at-requires : tie.Need-basis-at-requires
 basis-at-requires c κs = search needs
 
-inverse-requires : tie.Need-inverse-requires
-inverse-requires c κs = (rw (c .basis-at .ensures) (mod-lt _ (omega (arith, c .before .pre .1 .big))), c .before .pre .1)
+inverse-by-requires : tie.Need-inverse-by-requires
+inverse-by-requires c κs = (rw (c .basis-at .ensures) (mod-lt _ (omega (arith, c .before .pre .1 .0 .big))), c .before .pre .1)
 
 returns : tie.Need-returns
 unfolding weightOf
-returns c = c .inverse .ensures .is ∙ ap (inverseOf (c .before .before .args .p)) (c .before .basis-at .ensures)
+returns c = c .inverse-by .ensures .is ∙ ap (inverseOf (c .before .before .args .p)) (c .before .basis-at .ensures)
 
 pub weight-spec : {M : Type 1} → statement M
-weight-spec = tie.close (tie.spec basis-at-requires inverse-requires returns)
+weight-spec = tie.close (tie.spec basis-at-requires inverse-by-requires returns)

@@ -2,6 +2,7 @@
 use Prim.Native.Nat.{_-_, _≤_}
 use mathlib.Core.Path.{_≡_}
 use native.Mathlib.Nat.{le-antisymm}
+use native.Mathlib.Omega.{arith}
 use borrow.Author.Needs.{needs}
 use Rattle.base.specs.Fill.{filled}
 use Rattle.base.proofs.Fill.{filled-none, filled-store}
@@ -10,17 +11,22 @@ use Rattle.dealing.proofs.weights.Statement.{statement}
 use Rattle.dealing.proofs.weights.Tie as tie
 
 abbrev Inv-loop : tie.InvT-loop
-Inv-loop p d entries₀ j₀ entries j = (j ≤ d) × (entries ≡ filled (weightOf p d) j zeros)
+Inv-loop p d table entries₀ j₀ entries j = (j ≤ d) × (entries ≡ filled (weightOf p d) j zeros)
 
 abbrev μ-loop : tie.MeasureT-loop
-μ-loop p d entries₀ j₀ entries j = d - j
+μ-loop p d table entries₀ j₀ entries j = d - j
+
+inverses-requires : tie.Need-inverses-requires Inv-loop μ-loop
+inverses-requires c κs = search needs
 
 loop-holds : tie.Need-loop-holds Inv-loop μ-loop
 unfolding zeros
 loop-holds c = (search needs, filled-none _ _)
 
 weight-requires : tie.Need-weight-requires Inv-loop μ-loop
-weight-requires c κs = search needs
+weight-requires c κs =
+    let s = c .before .before .before .before in
+    ((omega arith, omega arith), (s .pre .1, c .before .before .before .inverses .ensures))
 
 mul-entries : tie.Need-mul-entries Inv-loop μ-loop
 mul-entries c = search needs
@@ -35,7 +41,7 @@ loop-less : tie.Need-loop-less Inv-loop μ-loop
 loop-less c = search needs
 
 loop-again : tie.Need-loop-again Inv-loop μ-loop
-loop-again c = (search needs, filled-store _ _ _ _ _ (c .before .before .loop .inv .1) (c .weight .ensures))
+loop-again c = (search needs, filled-store _ _ _ _ _ (c .before .before .before .loop .inv .1) (c .weight .ensures))
 
 returns : tie.Need-returns Inv-loop μ-loop
 unfolding weightsOf
@@ -47,6 +53,7 @@ weights-spec =
     (tie.spec
     Inv-loop
     μ-loop
+    inverses-requires
     loop-holds
     weight-requires
     mul-entries
