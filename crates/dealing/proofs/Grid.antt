@@ -13,11 +13,11 @@ use Rattle.base.specs.Rules.{orWhen, refusal}
 use Rattle.base.proofs.Rules.{clear}
 use Rattle.base.proofs.Fill.{getD-filled}
 use Rattle.field.proofs.Congruence.{mul-mod-mod, mod-mul-mod}
-use Rattle.linear.specs.Polynomial.{minus, basis, point}
+use Rattle.linear.specs.Polynomial.{minus, basis, lagrange, point}
 use Rattle.scheme.specs.Setup.{Setup, dim, Limits}
 use Rattle.scheme.specs.Calls.{pointsRules}
 use Rattle.scheme.proofs.Calls.{limits-of, size-is}
-use Rattle.dealing.specs.Grid.{zeros, zeroRows, pointsRow, pointsRows, pointsSizes}
+use Rattle.dealing.specs.Grid.{zeros, zeroRows, weightOf, weightsOf, pointsRow, pointsRows, pointsSizes}
 
 -- a basis begins at 1 and takes one factor more, reduced
 pub basis-none : (p j : ℕ) (a : ℕ → ℕ) (x : ℕ) → basis p 0 j a x ≡ 1
@@ -28,6 +28,15 @@ pub basis-turn : (p n j : ℕ) (a : ℕ → ℕ) (x : ℕ)
     → basis p n j a x % p * (pick (eqb n j) 1 (minus p x (a n)) % p) % p ≡ basis p (n + 1) j a x % p
 unfolding basis
 basis-turn p n j a x = rw (add-one n) (mul-mod-mod _ _ p ∙ mod-mul-mod _ _ p)
+
+-- an entry of the local weights, and what it gives
+pub weights-at : (p d j : ℕ) → d ≤ 16 → j < d → getD (weightsOf p d) j 0 ≡ weightOf p d j
+unfolding zeros weightsOf
+weights-at p d j hd hj = getD-filled (weightOf p d) d zeros j 0 hj (omega arith)
+
+pub weighed : (p d i j : ℕ) → weightOf p d j * (basis p d j (λ t. t) (d + i) % p) % p ≡ point p d i j
+unfolding point lagrange weightOf
+weighed p d i j = mul-mod-mod _ _ p
 
 -- an entry of the local rows
 pub rows-at : (p d n i j : ℕ) → d ≤ 16 → n ≤ 32 → i < n → j < d → getD (getD (pointsRows p d n) i []) j 0 ≡ point p d i j

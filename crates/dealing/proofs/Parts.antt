@@ -2,10 +2,13 @@
 use Prim.Native.Nat.{ℕ, _+_, _-_, _*_, _/_, _%_, _≤_, _<_}
 use mathlib.Core.Path.{_≡_, refl, sym, ap, _∙_}
 use mathlib.Core.List.{List}
+use mathlib.Core.Bool.{Bool, true, false, _&&_}
 use native.Mathlib.Nat.{mul-le-mul, div-add-mod', add-assoc}
 use native.Mathlib.Omega.{arith}
 use borrow.Author.Tests.{lt-ltb, le-ltb}
+use lib.Dec.{ltb}
 use lib.ListN.{length, getD}
+use Rattle.base.specs.Choice.{pick}
 use Rattle.base.specs.Fill.{tab, filled}
 use Rattle.base.specs.Matrix.{entry, flat}
 use Rattle.base.proofs.Fill.{getD-tab, tab-ext, getD-filled, flat-at}
@@ -14,8 +17,10 @@ use Rattle.linear.specs.Dot.{at, dot, along}
 use Rattle.linear.proofs.Dot.{dot-ext, dot-same}
 use Rattle.scheme.specs.Setup.{Setup, dim, row}
 use Rattle.scheme.specs.Dealing.{place, dealtEntry, dealt, partG, partH}
+use Rattle.scheme.proofs.Calls.{DealOk, limits-pos, below-vec}
 use Rattle.dealing.specs.Put.{put}
 use Rattle.dealing.specs.Parts.{entryG, entryH, sized}
+use Rattle.dealing.specs.Pairs.{Under}
 use Rattle.dealing.proofs.Put.{put-filled, put-all, filled-all}
 use Rattle.dealing.proofs.Grid.{place-at}
 
@@ -79,6 +84,18 @@ module _ (l e : ℕ) (secrets random : List ℕ) where
             ap (along random (l * e) 1) (sym s) ∙ of-rest q r ∙ flat-at (l + e) (dealtEntry (sized l e) secrets random) (l + q) r (w .2)
             ∙ ap F (omega (arith, s))
 
+-- an entry of F is one of the lent ones, or 0 past their ends
+entry-under : (S : Setup) (secrets random : List ℕ) → DealOk S secrets random → (k b : ℕ) → dealtEntry (sized (S .l) (S .e)) secrets random k b < S .p
+unfolding dealtEntry
+entry-under S secrets random ok k b = go (ltb k (S .l) && ltb b (S .l)) _ _
+  where
+    pos : 0 < S .p
+    pos = limits-pos S (ok .setup .limits)
+
+    go : (t : Bool) (x y : ℕ) → pick t (at secrets x) (at random y) < S .p
+    go true x y = below-vec (S .p) _ secrets pos (ok .vectors) x
+    go false x y = below-vec (S .p) _ random pos (ok .entries) y
+
 -- an array that holds F gives scheme's parts
 module _
     (S : Setup) (secrets random z F : List ℕ) (small : dim S ≤ 16) (long : length z ≡ 256)
@@ -91,6 +108,11 @@ module _
         ap (λ l. entry (dim S) l k b) is
         ∙ getD-filled _ (dim S * dim S) z _ 0 w (omega (arith, square-fits (dim S) small))
         ∙ sym (getD-tab (dim S * dim S) _ 0 _ w)
+
+    pub dealt-under : DealOk S secrets random → Under (S .p) (dim S * dim S) F
+    dealt-under ok t l =
+        rw (is, getD-filled (flat (dim S) (dealtEntry (sized (S .l) (S .e)) secrets random)) (dim S * dim S) z t 0 l (omega (arith, square-fits (dim S) small)))
+        (entry-under S secrets random ok (t / dim S) (t % dim S))
 
     entry-g : (i b : ℕ) → b < dim S → entryG (S .p) (dim S) (S .M) F i b ≡ dot (dim S) (row S i) (λ k. entry (dim S) (dealt S secrets random) k b) % S .p
     unfolding entryG

@@ -1,3 +1,4 @@
 pub mod Put
 pub mod Grid
 pub mod Parts
+pub mod Pairs

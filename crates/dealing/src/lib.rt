@@ -9,16 +9,17 @@ ghost use Rattle.base.specs.Choice.{pick};
 ghost use Rattle.base.specs.Rules.{refusal, refusalFrom, given};
 ghost use Rattle.base.specs.Fill.{filled};
 ghost use Rattle.base.specs.Matrix.{flat};
-ghost use Rattle.field.specs.Prime.{Prime};
-ghost use Rattle.linear.specs.Dot.{along};
+ghost use Rattle.field.specs.Prime.{Prime, Inverses};
+ghost use Rattle.linear.specs.Dot.{dot, along};
 ghost use Rattle.linear.specs.Polynomial.{minus, basis, point};
 ghost use Rattle.scheme.specs.Setup.{setupOf};
 ghost use Rattle.scheme.specs.Answers.{answerBy, paperWritten};
 ghost use Rattle.scheme.specs.Dealing.{dealtEntry};
 ghost use Rattle.scheme.specs.Calls.{pointsCall, pointsLeft, dealInputs, dealElements, dealRules, dealCall, dealLeftG, dealLeftH, dealAllRules, dealAllCall, dealAllLeftG, dealAllLeftH};
 ghost use Rattle.dealing.specs.Put.{put};
-ghost use Rattle.dealing.specs.Grid.{pointsRow, pointsRows, pointsSizes};
+ghost use Rattle.dealing.specs.Grid.{weightOf, weightsOf, pointsRow, pointsRows, pointsSizes};
 ghost use Rattle.dealing.specs.Parts.{entryG, entryH, sized, DealtRoom, PartRoom};
+ghost use Rattle.dealing.specs.Pairs.{UpTo, Under, pairOf, lowOf, highOf, PairRoom};
 use scheme::Params;
 use scheme::Written;
 
@@ -48,26 +49,49 @@ fn basis_at(p: u16, d: usize, j: usize, x: usize) -> u16
     acc
 }
 
-// Entry j of row i of the points matrix.
-fn point(p: u16, d: usize, i: usize, j: usize) -> u16
-    requires { ⌜ (d ≤ 16) × (i ≤ 32) × (j ≤ 16) ⌝ }
+// The inverse of the basis of node j at its own node: what every row multiplies its entry j by.
+fn weight(table: &[u16; 257], p: u16, d: usize, j: usize) -> u16
+    requires { ⌜ (d ≤ 16) × (j ≤ 16) ⌝ }
     requires { ⌜ Prime p ⌝ }
+    requires { ⌜ Inverses (now table) ⌝ }
+    ensures { λ r. ⌜ r ≡ weightOf p d j ⌝ }
+{
+    field::inverse_by(table, p, basis_at(p, d, j, j))
+}
+
+// The weights of the d nodes, then zeros: worked out once for all rows.
+fn weights(p: u16, d: usize) -> [u16; 16]
+    requires { ⌜ d ≤ 16 ⌝ }
+    requires { ⌜ Prime p ⌝ }
+    ensures { λ r. ⌜ r ≡ weightsOf p d ⌝ }
+{
+    let table = field::inverses();
+    let mut entries = [0u16; 16];
+    let mut j = 0;
+    while j < d {
+        entries[j] = weight(&table, p, d, j);
+        j += 1;
+    }
+    entries
+}
+
+// Entry j of row i of the points matrix, by the weight of node j.
+fn point(p: u16, d: usize, i: usize, j: usize, w: u16) -> u16
+    requires { ⌜ (1 < p) × (d ≤ 16) × (i ≤ 32) × (j < d) × (w ≡ weightOf p d j) ⌝ }
     ensures { λ r. ⌜ r ≡ point p d i j ⌝ }
 {
-    let inverse = field::inverse(p, basis_at(p, d, j, j));
-    field::product(p, inverse, basis_at(p, d, j, d + i))
+    field::product(p, w, basis_at(p, d, j, d + i))
 }
 
 // Row i of the points matrix: d entries, then zeros.
-fn row(p: u16, d: usize, i: usize) -> [u16; 16]
-    requires { ⌜ (d ≤ 16) × (i ≤ 32) ⌝ }
-    requires { ⌜ Prime p ⌝ }
+fn row(p: u16, d: usize, i: usize, by: &[u16; 16]) -> [u16; 16]
+    requires { ⌜ (1 < p) × (d ≤ 16) × (i ≤ 32) × (now by ≡ weightsOf p d) ⌝ }
     ensures { λ r. ⌜ r ≡ pointsRow p d i ⌝ }
 {
     let mut entries = [0u16; 16];
     let mut j = 0;
     while j < d {
-        entries[j] = point(p, d, i, j);
+        entries[j] = point(p, d, i, j, by[j]);
         j += 1;
     }
     entries
@@ -79,10 +103,11 @@ fn points_rows(p: u16, d: usize, n: usize) -> [[u16; 16]; 32]
     requires { ⌜ Prime p ⌝ }
     ensures { λ r. ⌜ r ≡ pointsRows p d n ⌝ }
 {
+    let by = weights(p, d);
     let mut rows = [[0u16; 16]; 32];
     let mut i = 0;
     while i < n {
-        rows[i] = row(p, d, i);
+        rows[i] = row(p, d, i, &by);
         i += 1;
     }
     rows
@@ -214,6 +239,128 @@ fn write_parts(
     }
 }
 
+// PAIRS
+// Where entries are at most 256, the sums of an entry of g and of an entry of h stay below 2^32, so one u64 holds both.
+// Row b of the pairs: entry k of column b of F, and 2^32 times entry k of its row b.
+fn pair_row(d: usize, f: &[u16], b: usize, q: &mut [u64])
+    requires { ⌜ (d ≤ 16) × (b < d) × (length (now f) ≡ 256) × (length (now q) ≡ 256) ⌝ }
+    ensures { λ _. ⌜ now (q .exit) ≡ put (pairOf d (now (f .entry)) b) (b * d) d (now (q .entry)) ⌝ }
+{
+    let at = b * d;
+    let mut k = 0;
+    while k < d {
+        let low = base::at(f, k * d + b);
+        let high = base::at(f, at + k);
+        q[at + k] = high * 4294967296 + low;
+        k += 1;
+    }
+}
+
+// The d rows of pairs.
+fn pair_rows(d: usize, f: &[u16], q: &mut [u64])
+    requires { ⌜ (d ≤ 16) × (length (now f) ≡ 256) × (length (now q) ≡ 256) ⌝ }
+    ensures { λ _. ⌜ now (q .exit) ≡ filled (flat d (pairOf d (now (f .entry)))) (d * d) (now (q .entry)) ⌝ }
+{
+    let mut b = 0;
+    while b < d {
+        pair_row(d, f, b, q);
+        b += 1;
+    }
+}
+
+// The product of the row of the matrix that starts at `row` and the row of pairs that starts at `pair`.
+fn pair_sum(d: usize, matrix: &[u16], row: usize, q: &[u64], pair: usize) -> u64
+    requires { ⌜ (d ≤ 16) × (row + d ≤ length (now matrix)) × (pair + d ≤ length (now q)) ⌝ }
+    requires { ⌜ UpTo 256 (row + d) (now matrix) ⌝ }
+    requires { ⌜ UpTo 1099511628032 (pair + d) (now q) ⌝ }
+    ensures { λ r. ⌜ r ≡ dot d (along (now (matrix .entry)) row 1) (along (now (q .entry)) pair 1) ⌝ }
+{
+    let mut sum: u64 = 0;
+    let mut k = 0;
+    while k < d {
+        let x = base::at(matrix, row + k);
+        let y = q[pair + k];
+        sum += x * y;
+        k += 1;
+    }
+    sum
+}
+
+// Holder i's g and h from the pairs, into its places of gs and hs.
+fn write_pair(p: u16, d: usize, matrix: &[u16], q: &[u64], i: usize, gs: &mut [u16], hs: &mut [u16])
+    requires { ⌜ PairRoom p d (now matrix) (now q) i (now gs) (now hs) ⌝ }
+    ensures { λ _. ⌜ now (gs .exit) ≡ put (lowOf p d (now (matrix .entry)) (now (q .entry)) i) (i * d) d (now (gs .entry)) ⌝ }
+    ensures { λ _. ⌜ now (hs .exit) ≡ put (highOf p d (now (matrix .entry)) (now (q .entry)) i) (i * d) d (now (hs .entry)) ⌝ }
+{
+    let at = i * d;
+    let mut b = 0;
+    while b < d {
+        let both = pair_sum(d, matrix, at, q, b * d);
+        gs[at + b] = field::residue(p, both % 4294967296);
+        hs[at + b] = field::residue(p, both / 4294967296);
+        b += 1;
+    }
+}
+
+// Every holder's part from the pairs, one after the other.
+fn write_pairs(
+    p: u16,
+    d: usize,
+    n: usize,
+    matrix: &[u16],
+    q: &[u64],
+    gs: &mut [u16],
+    hs: &mut [u16],
+)
+    requires { ⌜ (0 < p) × (d ≤ 16) × (length (now matrix) ≡ n * d) × (length (now q) ≡ 256) × (length (now gs) ≡ n * d) × (length (now hs) ≡ n * d) ⌝ }
+    requires { ⌜ UpTo 256 (n * d) (now matrix) ⌝ }
+    requires { ⌜ UpTo 1099511628032 (d * d) (now q) ⌝ }
+    ensures { λ _. ⌜ now (gs .exit) ≡ filled (flat d (lowOf p d (now (matrix .entry)) (now (q .entry)))) (n * d) (now (gs .entry)) ⌝ }
+    ensures { λ _. ⌜ now (hs .exit) ≡ filled (flat d (highOf p d (now (matrix .entry)) (now (q .entry)))) (n * d) (now (hs .entry)) ⌝ }
+{
+    let mut i = 0;
+    while i < n {
+        write_pair(p, d, matrix, q, i, gs, hs);
+        i += 1;
+    }
+}
+
+// Every holder's part by way of pairs, for entries of at most 256.
+fn write_paired(
+    p: u16,
+    d: usize,
+    n: usize,
+    matrix: &[u16],
+    f: &[u16],
+    gs: &mut [u16],
+    hs: &mut [u16],
+)
+    requires { ⌜ (0 < p) × (d ≤ 16) × (length (now matrix) ≡ n * d) × (length (now f) ≡ 256) × (length (now gs) ≡ n * d) × (length (now hs) ≡ n * d) ⌝ }
+    requires { ⌜ UpTo 256 (n * d) (now matrix) ⌝ }
+    requires { ⌜ UpTo 256 (d * d) (now f) ⌝ }
+    ensures { λ _. ⌜ now (gs .exit) ≡ filled (flat d (entryG p d (now (matrix .entry)) (now (f .entry)))) (n * d) (now (gs .entry)) ⌝ }
+    ensures { λ _. ⌜ now (hs .exit) ≡ filled (flat d (entryH p d (now (matrix .entry)) (now (f .entry)))) (n * d) (now (hs .entry)) ⌝ }
+{
+    let mut q = [0u64; 256];
+    pair_rows(d, f, &mut q);
+    write_pairs(p, d, n, matrix, &q, gs, hs);
+}
+
+// Every holder's part. The way depends on the field alone: the products of larger fields leave no room for pairs.
+fn write_all(p: u16, d: usize, n: usize, matrix: &[u16], f: &[u16], gs: &mut [u16], hs: &mut [u16])
+    requires { ⌜ (0 < p) × (d ≤ 16) × (length (now matrix) ≡ n * d) × (length (now f) ≡ 256) × (length (now gs) ≡ n * d) × (length (now hs) ≡ n * d) ⌝ }
+    requires { ⌜ Under p (n * d) (now matrix) ⌝ }
+    requires { ⌜ Under p (d * d) (now f) ⌝ }
+    ensures { λ _. ⌜ now (gs .exit) ≡ filled (flat d (entryG p d (now (matrix .entry)) (now (f .entry)))) (n * d) (now (gs .entry)) ⌝ }
+    ensures { λ _. ⌜ now (hs .exit) ≡ filled (flat d (entryH p d (now (matrix .entry)) (now (f .entry)))) (n * d) (now (hs .entry)) ⌝ }
+{
+    if 257 < p {
+        write_parts(p, d, n, matrix, f, gs, hs);
+        return;
+    }
+    write_paired(p, d, n, matrix, f, gs, hs);
+}
+
 // DEAL
 // The length of the random entries: d * d - ℓ * ℓ.
 fn random_len(s: Params) -> usize
@@ -326,6 +473,6 @@ pub fn deal_all(
     let d = scheme::dim(s);
     let mut f = [0u16; 256];
     fill_dealt(s, secrets, random, &mut f);
-    write_parts(s.p, d, s.n as usize, matrix, &f, gs, hs);
+    write_all(s.p, d, s.n as usize, matrix, &f, gs, hs);
     Written::Done
 }

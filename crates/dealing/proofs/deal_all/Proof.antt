@@ -7,7 +7,7 @@ use lib.ListN.{length}
 use Rattle.base.proofs.Fill.{length-filled}
 use Rattle.scheme.specs.Setup.{setupOf}
 use Rattle.scheme.proofs.Calls.{declined, unchanged, dealAll-ok, limits-pos}
-use Rattle.dealing.proofs.Parts.{all-g, all-h}
+use Rattle.dealing.proofs.Parts.{dealt-under, all-g, all-h}
 use Rattle.dealing.proofs.deal_all.Statement.{statement}
 use Rattle.dealing.proofs.deal_all.Tie as tie
 
@@ -43,25 +43,33 @@ fill-dealt-requires c κs =
       square = refl;
     }
 
-cast-write-parts : tie.Need-cast-write-parts
-cast-write-parts c = search needs
+cast-write-all : tie.Need-cast-write-all
+cast-write-all c = search needs
 
-slice-aggregate-write-parts : tie.Need-slice-aggregate-write-parts
-slice-aggregate-write-parts c = search needs
+slice-aggregate-write-all : tie.Need-slice-aggregate-write-all
+slice-aggregate-write-all c = search needs
 
-write-parts-requires : tie.Need-write-parts-requires
-write-parts-requires c κs =
+write-all-requires : tie.Need-write-all-requires
+write-all-requires c κs =
     let e = c .before .before .before .before .before .before .before .before in
     let x = e .before .before .before .before .before .before .before .before .before .args in
     let z = sym (e .before .deal-all-refusal .ensures) ∙ e .if1 .left in
     let ok = dealAll-ok (setupOf (x .s) (x .matrix .now)) (x .secrets .now) (x .random .now) (x .gs .now) (x .hs .now) z in
-    let d = c .before .before .before .before .before .before .before .dim .ensures .0 in (
-      limits-pos _ (ok .0 .setup .limits),
-      omega (arith, ok .0 .setup .limits .secret, ok .0 .setup .limits .random, d),
-      rw d (ok .0 .setup .matrix .size),
-      ap length (c .before .before .before .before .before .fill-dealt .ensures) ∙ length-filled _ _ _,
-      rw d (ok .1),
-      rw d (ok .2),
+    let d = c .before .before .before .before .before .before .before .dim .ensures .0 in
+    let few : x .s .l + x .s .e ≤ 16 = omega (arith, ok .0 .setup .limits .secret, ok .0 .setup .limits .random) in
+    let F = c .before .before .before .before .before .fill-dealt .ensures in (
+      (
+        limits-pos _ (ok .0 .setup .limits),
+        omega (arith, few, d),
+        rw d (ok .0 .setup .matrix .size),
+        ap length F ∙ length-filled _ _ _,
+        rw d (ok .1),
+        rw d (ok .2),
+      ),
+      (
+        λ k l. ok .0 .setup .matrix .small k (rw d at l),
+        λ k l. dealt-under (setupOf (x .s) (x .matrix .now)) _ _ _ _ few refl F (ok .0) k (rw d at l),
+      ),
     )
 
 same-length-3 : tie.Need-same-length-3
@@ -80,7 +88,7 @@ returns-2 c =
     let few : x .s .l + x .s .e ≤ 16 = omega (arith, ok .0 .setup .limits .secret, ok .0 .setup .limits .random) in
     let S = setupOf (x .s) (x .matrix .now) in
     let F = c .before .before .before .before .before .before .before .before .before .before .fill-dealt .ensures in
-    let W = c .before .before .before .before .write-parts .ensures in
+    let W = c .before .before .before .before .write-all .ensures in
     rw z (refl, (rw d at (W .0) ∙ all-g S _ _ _ _ few refl F (x .gs .now) (ok .1), rw d at (W .1) ∙ all-h S _ _ _ _ few refl F (x .hs .now) (ok .2)))
 
 pub deal-all-spec : {M : Type 1} → statement M
@@ -94,9 +102,9 @@ deal-all-spec =
     dim-requires
     slice-aggregate-fill-dealt
     fill-dealt-requires
-    cast-write-parts
-    slice-aggregate-write-parts
-    write-parts-requires
+    cast-write-all
+    slice-aggregate-write-all
+    write-all-requires
     same-length-3
     same-length-4
     returns-2)

@@ -2,6 +2,7 @@
 use Prim.Native.Nat.{_-_, _≤_}
 use mathlib.Core.Path.{_≡_}
 use native.Mathlib.Nat.{le-antisymm}
+use native.Mathlib.Omega.{arith}
 use borrow.Author.Needs.{needs}
 use Rattle.base.specs.Fill.{filled}
 use Rattle.base.proofs.Fill.{filled-none, filled-store}
@@ -10,17 +11,25 @@ use Rattle.dealing.proofs.points_rows.Statement.{statement}
 use Rattle.dealing.proofs.points_rows.Tie as tie
 
 abbrev Inv-loop : tie.InvT-loop
-Inv-loop p d n rows₀ i₀ rows i = (i ≤ n) × (rows ≡ filled (pointsRow p d) i zeroRows)
+Inv-loop p d n by rows₀ i₀ rows i = (i ≤ n) × (rows ≡ filled (pointsRow p d) i zeroRows)
 
 abbrev μ-loop : tie.MeasureT-loop
-μ-loop p d n rows₀ i₀ rows i = n - i
+μ-loop p d n by rows₀ i₀ rows i = n - i
+
+weights-requires : tie.Need-weights-requires Inv-loop μ-loop
+weights-requires c κs = search needs
 
 loop-holds : tie.Need-loop-holds Inv-loop μ-loop
 unfolding zeros zeroRows
 loop-holds c = (search needs, filled-none _ _)
 
 row-requires : tie.Need-row-requires Inv-loop μ-loop
-row-requires c κs = search needs
+row-requires c κs = (
+  c .before .before .before .before .pre .1 .big,
+  omega arith,
+  omega arith,
+  c .before .before .before .weights .ensures,
+)
 
 mul-rows : tie.Need-mul-rows Inv-loop μ-loop
 mul-rows c = search needs
@@ -35,7 +44,7 @@ loop-less : tie.Need-loop-less Inv-loop μ-loop
 loop-less c = search needs
 
 loop-again : tie.Need-loop-again Inv-loop μ-loop
-loop-again c = (search needs, filled-store _ _ _ _ _ (c .before .before .loop .inv .1) (c .row .ensures))
+loop-again c = (search needs, filled-store _ _ _ _ _ (c .before .before .before .loop .inv .1) (c .row .ensures))
 
 returns : tie.Need-returns Inv-loop μ-loop
 unfolding pointsRows
@@ -47,6 +56,7 @@ points-rows-spec =
     (tie.spec
     Inv-loop
     μ-loop
+    weights-requires
     loop-holds
     row-requires
     mul-rows
