@@ -100,3 +100,7 @@ module _ {A : Type 0} where
 -- a table of numbers below p is a vector
 pub tab-vec : (p d : ℕ) (f : ℕ → ℕ) → ((k : ℕ) → k < d → f k < p) → Vec p d (tab d f)
 tab-vec p d f h = record { size = length-tab d f; small = λ k l. rw (getD-tab d f 0 k l) (h k l) }
+
+-- a list that is filled whole is the table
+pub filled-all : (f : ℕ → ℕ) (n : ℕ) (l : List ℕ) → length l ≡ n → filled f n l ≡ tab n f
+filled-all f n l e = rw (← e) (filled-whole f 0 l)

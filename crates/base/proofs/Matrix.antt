@@ -1,10 +1,10 @@
 -- Index arithmetic of flat matrices: a row and an entry lie inside, two rows do not overlap; and what keeps elements below p.
-use Prim.Native.Nat.{ℕ, zero, suc, _+_, _*_, _≤_, _<_}
+use Prim.Native.Nat.{ℕ, zero, suc, _+_, _*_, _/_, _%_, _≤_, _<_}
 use mathlib.Core.Bool.{Bool, true}
 use mathlib.Core.List.{List}
 use mathlib.Core.Logic.{_≢_, _⊎_, inl, inr}
 use mathlib.Core.Path.{_≡_, refl, ap}
-use native.Mathlib.Nat.{mul-le-mul-right, suc-mul}
+use native.Mathlib.Nat.{mul-le-mul-right, suc-mul, mul-zero, mod-lt, div-lt-iff-lt-mul}
 use native.Mathlib.Decide.{decLt}
 use native.Mathlib.Omega.{arith}
 use lib.Dec.{ltb}
@@ -48,3 +48,8 @@ below-by p l pos t k = go (decLt k (length l))
 pub below-is : (p : ℕ) (l : List ℕ) → ((k : ℕ) → k < length l → getD l k 0 < p) → allBelow p l ≡ true
 unfolding allBelow
 below-is p l h = every-all (length l) (λ i. ltb (getD l i 0) p) (λ k m. lt-ltb (getD l k 0) p (h k m))
+
+-- a place of a flat matrix of n rows, by row and column
+pub place-at : (d n t : ℕ) → t < n * d → (0 < d) × (t / d < n) × (t % d < d)
+place-at zero n t h = absurd (omega (arith, mul-zero n))
+place-at (suc d) n t h = (omega arith, div-lt-iff-lt-mul {k = suc d} {x = t} {y = n} (omega arith) .1 h, mod-lt t (omega arith))

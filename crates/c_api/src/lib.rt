@@ -54,7 +54,7 @@ pub extern "C" fn mavdrusek_points(p: u16, l: u16, e: u16, n: u16, matrix: &mut 
     ensures answer { λ r. ⌜ r ≡ pointsCall (setup p l e n (now (matrix .entry))) .number ⌝ }
     ensures buffer { λ r. ⌜ now (matrix .exit) ≡ pointsLeft (setup p l e n (now (matrix .entry))) ⌝ }
 {
-    scheme::declined(dealing::points(Params { p, l, e, n }, matrix))
+    scheme::declined(points::points(Params { p, l, e, n }, matrix))
 }
 
 // One holder's part of a dealing.

@@ -1,5 +1,4 @@
 pub mod Put
-pub mod Grid
 pub mod Parts
 pub mod Deals
 pub mod Pairs

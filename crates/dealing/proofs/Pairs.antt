@@ -15,8 +15,8 @@ use Rattle.linear.specs.Dot.{dot, along}
 use Rattle.linear.proofs.Dot.{dot-ext, dot-same, dot-comm, dot-comb-right}
 use Rattle.dealing.specs.Parts.{entryG, entryH}
 use Rattle.dealing.specs.Pairs.{UpTo, pairOf, lowOf, highOf}
-use Rattle.dealing.proofs.Put.{filled-all}
-use Rattle.dealing.proofs.Grid.{place-at}
+use Rattle.base.proofs.Fill.{filled-all}
+use Rattle.base.proofs.Matrix.{place-at}
 use Rattle.dealing.proofs.Parts.{square-fits}
 
 -- a product with pairs is a pair of products

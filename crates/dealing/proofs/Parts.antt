@@ -21,8 +21,9 @@ use Rattle.scheme.proofs.Calls.{DealOk, limits-pos, below-vec}
 use Rattle.dealing.specs.Put.{put}
 use Rattle.dealing.specs.Parts.{entryG, entryH, sized}
 use Rattle.dealing.specs.Pairs.{Under}
-use Rattle.dealing.proofs.Put.{put-filled, put-all, filled-all}
-use Rattle.dealing.proofs.Grid.{place-at}
+use Rattle.base.proofs.Fill.{filled-all}
+use Rattle.dealing.proofs.Put.{put-filled, put-all}
+use Rattle.base.proofs.Matrix.{place-at}
 
 -- F and its rows lie in the array
 pub square-fits : (d : ℕ) → d ≤ 16 → d * d ≤ 256

@@ -8,7 +8,7 @@ use native.Mathlib.Omega.{arith}
 use lib.ListN.{length, set, length-set}
 use Rattle.base.specs.Fill.{tab, filled}
 use Rattle.base.specs.Matrix.{flat}
-use Rattle.base.proofs.Fill.{filled-none, filled-store, filled-whole, flat-at}
+use Rattle.base.proofs.Fill.{filled-none, filled-store, filled-all, flat-at}
 use Rattle.dealing.specs.Put.{put}
 
 pub put-none : (f : ℕ → ℕ) (a : ℕ) (l : List ℕ) → l ≡ put f a 0 l
@@ -35,10 +35,6 @@ put-filled f g a (suc k) x l e h =
 -- a row of a flat matrix more
 pub put-row : (d : ℕ) (f : ℕ → ℕ → ℕ) (i : ℕ) (x l : List ℕ) → l ≡ filled (flat d f) (i * d) x → put (f i) (i * d) d l ≡ filled (flat d f) ((i + 1) * d) x
 put-row d f i x l e = put-filled (f i) (flat d f) (i * d) d x l e (λ t m. flat-at d f i t m) ∙ ap (λ n. filled (flat d f) n x) (omega arith)
-
--- a list that is filled whole is the table
-pub filled-all : (f : ℕ → ℕ) (n : ℕ) (l : List ℕ) → length l ≡ n → filled f n l ≡ tab n f
-filled-all f n l e = rw (← e) (filled-whole f 0 l)
 
 -- a list that is written whole is the table
 pub put-all : (f g : ℕ → ℕ) (n : ℕ) (l : List ℕ) → length l ≡ n → ((t : ℕ) → t < n → f t ≡ g t) → put f 0 n l ≡ tab n g

@@ -1,4 +1,3 @@
 pub mod Put
-pub mod Grid
 pub mod Parts
 pub mod Pairs

@@ -169,13 +169,13 @@ fn points() {
     let mut of_5 = [9u16; 10];
     let mut of_6 = [9u16; 12];
     say(b"points of 3 holders");
-    let a = dealing::points(example(), &mut of_3);
+    let a = points::points(example(), &mut of_3);
     written(a, &of_3);
     say(b"points of 5 holders");
-    let b = dealing::points(params(7, 1, 1, 5), &mut of_5);
+    let b = points::points(params(7, 1, 1, 5), &mut of_5);
     written(b, &of_5);
     say(b"points of 6 holders");
-    let c = dealing::points(params(7, 1, 1, 6), &mut of_6);
+    let c = points::points(params(7, 1, 1, 6), &mut of_6);
     written(c, &of_6);
 }
 

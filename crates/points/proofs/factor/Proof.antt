@@ -6,8 +6,8 @@ use native.Mathlib.Omega.{arith}
 use borrow.Author.Tests.{eq-eqb, ne-eqb}
 use borrow.Author.Needs.{needs}
 use Rattle.linear.specs.Polynomial.{minus}
-use Rattle.dealing.proofs.factor.Statement.{statement}
-use Rattle.dealing.proofs.factor.Tie as tie
+use Rattle.points.proofs.factor.Statement.{statement}
+use Rattle.points.proofs.factor.Tie as tie
 
 returns : tie.Need-returns
 returns c = let x = c .before .args in rw (eq-eqb (x .t) (x .j) (c .if1 .taken)) (sym (mod-eq-of-lt (c .before .pre .0)))

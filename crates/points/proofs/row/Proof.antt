@@ -8,10 +8,10 @@ use lib.ListN.{getD}
 use Rattle.base.specs.Fill.{filled}
 use Rattle.base.proofs.Fill.{filled-none, filled-store}
 use Rattle.linear.specs.Polynomial.{point}
-use Rattle.dealing.specs.Grid.{zeros, pointsRow}
-use Rattle.dealing.proofs.Grid.{weights-at}
-use Rattle.dealing.proofs.row.Statement.{statement}
-use Rattle.dealing.proofs.row.Tie as tie
+use Rattle.points.specs.Grid.{zeros, pointsRow}
+use Rattle.points.proofs.Grid.{weights-at}
+use Rattle.points.proofs.row.Statement.{statement}
+use Rattle.points.proofs.row.Tie as tie
 
 abbrev Inv-loop : tie.InvT-loop
 Inv-loop p d i by entries₀ j₀ entries j = (j ≤ d) × (entries ≡ filled (point p d i) j zeros)

@@ -1,7 +1,7 @@
 -- The rules of the table, in its order.
 use borrow.Author.Needs.{needs}
-use Rattle.dealing.proofs.points_sizes.Statement.{statement}
-use Rattle.dealing.proofs.points_sizes.Tie as tie
+use Rattle.points.proofs.points_sizes.Statement.{statement}
+use Rattle.points.proofs.points_sizes.Tie as tie
 
 limits-refusal-requires : tie.Need-limits-refusal-requires
 limits-refusal-requires c κs = search needs

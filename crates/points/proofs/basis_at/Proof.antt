@@ -4,9 +4,9 @@ use mathlib.Core.Path.{_≡_, sym}
 use native.Mathlib.Nat.{mod-eq-of-lt, le-antisymm}
 use borrow.Author.Needs.{needs}
 use Rattle.linear.specs.Polynomial.{basis}
-use Rattle.dealing.proofs.Grid.{basis-none, basis-turn}
-use Rattle.dealing.proofs.basis_at.Statement.{statement}
-use Rattle.dealing.proofs.basis_at.Tie as tie
+use Rattle.points.proofs.Grid.{basis-none, basis-turn}
+use Rattle.points.proofs.basis_at.Statement.{statement}
+use Rattle.points.proofs.basis_at.Tie as tie
 
 abbrev Inv-loop : tie.InvT-loop
 Inv-loop p d j x acc₀ t₀ acc t = (t ≤ d) × (acc ≡ basis p t j (λ t. t) x % p)

@@ -4,9 +4,9 @@ use native.Mathlib.Nat.{mod-lt}
 use native.Mathlib.Omega.{arith}
 use borrow.Author.Needs.{needs}
 use Rattle.field.specs.Prime.{inverseOf}
-use Rattle.dealing.specs.Grid.{weightOf}
-use Rattle.dealing.proofs.weight.Statement.{statement}
-use Rattle.dealing.proofs.weight.Tie as tie
+use Rattle.points.specs.Grid.{weightOf}
+use Rattle.points.proofs.weight.Statement.{statement}
+use Rattle.points.proofs.weight.Tie as tie
 
 basis-at-requires : tie.Need-basis-at-requires
 basis-at-requires c κs = search needs

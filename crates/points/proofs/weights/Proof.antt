@@ -6,9 +6,9 @@ use native.Mathlib.Omega.{arith}
 use borrow.Author.Needs.{needs}
 use Rattle.base.specs.Fill.{filled}
 use Rattle.base.proofs.Fill.{filled-none, filled-store}
-use Rattle.dealing.specs.Grid.{zeros, weightOf, weightsOf}
-use Rattle.dealing.proofs.weights.Statement.{statement}
-use Rattle.dealing.proofs.weights.Tie as tie
+use Rattle.points.specs.Grid.{zeros, weightOf, weightsOf}
+use Rattle.points.proofs.weights.Statement.{statement}
+use Rattle.points.proofs.weights.Tie as tie
 
 abbrev Inv-loop : tie.InvT-loop
 Inv-loop p d table entries₀ j₀ entries j = (j ≤ d) × (entries ≡ filled (weightOf p d) j zeros)

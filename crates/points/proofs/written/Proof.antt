@@ -1,8 +1,8 @@
 -- A number other than 0 declines.
 use mathlib.Core.Path.{refl}
 use Rattle.scheme.proofs.Calls.{declined}
-use Rattle.dealing.proofs.written.Statement.{statement}
-use Rattle.dealing.proofs.written.Tie as tie
+use Rattle.points.proofs.written.Statement.{statement}
+use Rattle.points.proofs.written.Tie as tie
 
 returns : tie.Need-returns
 returns c = declined _ _ (c .if1 .taken)

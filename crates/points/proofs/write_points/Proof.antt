@@ -9,9 +9,10 @@ use Rattle.base.specs.Matrix.{flat}
 use Rattle.base.specs.Fill.{filled}
 use Rattle.base.proofs.Fill.{filled-none, filled-store}
 use Rattle.linear.specs.Polynomial.{point}
-use Rattle.dealing.proofs.Grid.{rows-at, place-at}
-use Rattle.dealing.proofs.write_points.Statement.{statement}
-use Rattle.dealing.proofs.write_points.Tie as tie
+use Rattle.points.proofs.Grid.{rows-at}
+use Rattle.base.proofs.Matrix.{place-at}
+use Rattle.points.proofs.write_points.Statement.{statement}
+use Rattle.points.proofs.write_points.Tie as tie
 
 abbrev Inv-loop : tie.InvT-loop
 Inv-loop p d n matrix₀ rows t₀ matrix t = (t ≤ length matrix₀) × (length matrix ≡ length matrix₀) × (matrix ≡ filled (flat d (point p d)) t matrix₀)

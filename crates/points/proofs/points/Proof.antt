@@ -9,10 +9,10 @@ use Rattle.scheme.specs.Answers.{answerBy}
 use Rattle.scheme.specs.Points.{pointsMatrix}
 use Rattle.scheme.specs.Setup.{setupOf}
 use Rattle.scheme.proofs.Calls.{unchanged, limits-prime}
-use Rattle.dealing.proofs.Grid.{not-lowered, sizes-ok, whole-table}
-use Rattle.dealing.proofs.Put.{filled-all}
-use Rattle.dealing.proofs.points.Statement.{statement}
-use Rattle.dealing.proofs.points.Tie as tie
+use Rattle.points.proofs.Grid.{not-lowered, sizes-ok, whole-table}
+use Rattle.base.proofs.Fill.{filled-all}
+use Rattle.points.proofs.points.Statement.{statement}
+use Rattle.points.proofs.points.Tie as tie
 
 dim-requires : tie.Need-dim-requires
 dim-requires c κs = search needs

@@ -1,9 +1,9 @@
 -- The weight times the basis at d + i, which is reduced first.
 use mathlib.Core.Path.{_∙_}
 use borrow.Author.Needs.{needs}
-use Rattle.dealing.proofs.Grid.{weighed}
-use Rattle.dealing.proofs.point.Statement.{statement}
-use Rattle.dealing.proofs.point.Tie as tie
+use Rattle.points.proofs.Grid.{weighed}
+use Rattle.points.proofs.point.Statement.{statement}
+use Rattle.points.proofs.point.Tie as tie
 
 add-basis-at : tie.Need-add-basis-at
 add-basis-at c = search needs

@@ -6,9 +6,9 @@ use native.Mathlib.Omega.{arith}
 use borrow.Author.Needs.{needs}
 use Rattle.base.specs.Fill.{filled}
 use Rattle.base.proofs.Fill.{filled-none, filled-store}
-use Rattle.dealing.specs.Grid.{zeros, zeroRows, pointsRow, pointsRows}
-use Rattle.dealing.proofs.points_rows.Statement.{statement}
-use Rattle.dealing.proofs.points_rows.Tie as tie
+use Rattle.points.specs.Grid.{zeros, zeroRows, pointsRow, pointsRows}
+use Rattle.points.proofs.points_rows.Statement.{statement}
+use Rattle.points.proofs.points_rows.Tie as tie
 
 abbrev Inv-loop : tie.InvT-loop
 Inv-loop p d n by rows₀ i₀ rows i = (i ≤ n) × (rows ≡ filled (pointsRow p d) i zeroRows)

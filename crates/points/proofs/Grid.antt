@@ -17,7 +17,7 @@ use Rattle.linear.specs.Polynomial.{minus, basis, lagrange, point}
 use Rattle.scheme.specs.Setup.{Setup, dim, Limits}
 use Rattle.scheme.specs.Calls.{pointsRules}
 use Rattle.scheme.proofs.Calls.{limits-of, size-is}
-use Rattle.dealing.specs.Grid.{zeros, zeroRows, weightOf, weightsOf, pointsRow, pointsRows, pointsSizes}
+use Rattle.points.specs.Grid.{zeros, zeroRows, weightOf, weightsOf, pointsRow, pointsRows, pointsSizes}
 
 -- a basis begins at 1 and takes one factor more, reduced
 pub basis-none : (p j : ℕ) (a : ℕ → ℕ) (x : ℕ) → basis p 0 j a x ≡ 1
@@ -43,11 +43,6 @@ pub rows-at : (p d n i j : ℕ) → d ≤ 16 → n ≤ 32 → i < n → j < d �
 unfolding zeros zeroRows pointsRow pointsRows
 rows-at p d n i j hd hn hi hj =
     rw (getD-filled (pointsRow p d) n zeroRows i [] hi (omega arith), getD-filled (point p d i) d zeros j 0 hj (omega arith))
-
--- a place of a flat matrix of n rows, by row and column
-pub place-at : (d n t : ℕ) → t < n * d → (0 < d) × (t / d < n) × (t % d < d)
-place-at zero n t h = absurd (omega (arith, mul-zero n))
-place-at (suc d) n t h = (omega arith, div-lt-iff-lt-mul {k = suc d} {x = t} {y = n} (omega arith) .1 h, mod-lt t (omega arith))
 
 -- a number that stands is not lowered by a later rule
 pub not-lowered : (r k : ℕ) (b : Bool) → r ≤ orWhen r k b
