@@ -14,6 +14,7 @@ ghost use Rattle.scheme.specs.Calls.{dealInputs, dealElements, dealRules, dealC
 ghost use Rattle.dealing.specs.Put.{put};
 ghost use Rattle.dealing.specs.Parts.{entryG, entryH, sized, DealtRoom, PartRoom};
 ghost use Rattle.dealing.specs.Pairs.{UpTo, Under, pairOf, lowOf, highOf, PairRoom};
+use field::Field;
 use scheme::Params;
 use scheme::Written;
 
@@ -159,8 +160,8 @@ fn write_pair(p: u16, d: usize, matrix: &[u16], q: &[u64], i: usize, gs: &mut [u
     }
 }
 
-// Every holder's part from the pairs, one after the other.
-fn write_pairs(
+// Every holder's part from the pairs, one after the other: the loop.
+fn write_pairs_by(
     p: u16,
     d: usize,
     n: usize,
@@ -179,6 +180,31 @@ fn write_pairs(
     while i < n {
         write_pair(p, d, matrix, q, i, gs, hs);
         i += 1;
+    }
+}
+
+// Every holder's part from the pairs. The modulus is a constant in each loop.
+fn write_pairs(
+    p: u16,
+    d: usize,
+    n: usize,
+    matrix: &[u16],
+    q: &[u64],
+    gs: &mut [u16],
+    hs: &mut [u16],
+)
+    requires { ⌜ (0 < p) × (d ≤ 16) × (length (now matrix) ≡ n * d) × (length (now q) ≡ 256) × (length (now gs) ≡ n * d) × (length (now hs) ≡ n * d) ⌝ }
+    requires { ⌜ UpTo 256 (n * d) (now matrix) ⌝ }
+    requires { ⌜ UpTo 1099511628032 (d * d) (now q) ⌝ }
+    ensures { λ _. ⌜ now (gs .exit) ≡ filled (flat d (lowOf p d (now (matrix .entry)) (now (q .entry)))) (n * d) (now (gs .entry)) ⌝ }
+    ensures { λ _. ⌜ now (hs .exit) ≡ filled (flat d (highOf p d (now (matrix .entry)) (now (q .entry)))) (n * d) (now (hs .entry)) ⌝ }
+{
+    match p {
+        Field::P2 => write_pairs_by(2, d, n, matrix, q, gs, hs),
+        Field::P7 => write_pairs_by(7, d, n, matrix, q, gs, hs),
+        Field::P251 => write_pairs_by(251, d, n, matrix, q, gs, hs),
+        Field::P257 => write_pairs_by(257, d, n, matrix, q, gs, hs),
+        _ => write_pairs_by(p, d, n, matrix, q, gs, hs),
     }
 }
 

@@ -14,7 +14,7 @@ ghost use Rattle.linear.specs.Polynomial.{minus, basis, point};
 ghost use Rattle.scheme.specs.Setup.{setupOf};
 ghost use Rattle.scheme.specs.Answers.{answerBy, paperWritten};
 ghost use Rattle.scheme.specs.Calls.{pointsCall, pointsLeft};
-ghost use Rattle.points.specs.Grid.{weightOf, weightsOf, pointsRow, pointsRows, pointsSizes};
+ghost use Rattle.points.specs.Grid.{weightOf, weightsOf, pointsRow, pointsSizes};
 use scheme::Params;
 use scheme::Written;
 
@@ -91,20 +91,18 @@ fn row(p: u16, d: usize, i: usize, by: &[u16; 16]) -> [u16; 16]
     entries
 }
 
-// The n rows of the points matrix.
-fn points_rows(p: u16, d: usize, n: usize) -> [[u16; 16]; 32]
-    requires { ⌜ (d ≤ 16) × (n ≤ 32) ⌝ }
+// The n rows of the points matrix, into the lent rows.
+fn points_rows(p: u16, d: usize, n: usize, rows: &mut [[u16; 16]])
+    requires { ⌜ (d ≤ 16) × (n ≤ 32) × (length (now rows) ≡ 32) ⌝ }
     requires { ⌜ Prime p ⌝ }
-    ensures { λ r. ⌜ r ≡ pointsRows p d n ⌝ }
+    ensures { λ _. ⌜ now (rows .exit) ≡ filled (pointsRow p d) n (now (rows .entry)) ⌝ }
 {
     let by = weights(p, d);
-    let mut rows = [[0u16; 16]; 32];
     let mut i = 0;
     while i < n {
         rows[i] = row(p, d, i, &by);
         i += 1;
     }
-    rows
 }
 
 // The points matrix, by rows, into the lent matrix.
@@ -113,7 +111,8 @@ fn write_points(p: u16, d: usize, n: usize, matrix: &mut [u16])
     requires { ⌜ Prime p ⌝ }
     ensures { λ _. ⌜ now (matrix .exit) ≡ filled (flat d (point p d)) (n * d) (now (matrix .entry)) ⌝ }
 {
-    let rows = points_rows(p, d, n);
+    let mut rows = [[0u16; 16]; 32];
+    points_rows(p, d, n, &mut rows);
     let mut t = 0;
     while t < matrix.len() {
         matrix[t] = rows[t / d][t % d];

@@ -1,83 +1,89 @@
--- The parts of the first i holders are written, each as a row of a flat matrix.
-use Prim.Native.Nat.{_-_, _*_, _≤_}
-use mathlib.Core.Path.{_≡_, ap, _∙_}
-use native.Mathlib.Nat.{le-antisymm, zero-mul}
-use native.Mathlib.Omega.{arith}
+-- Each arm of the match is the loop with the number itself as its modulus.
 use borrow.Author.Needs.{needs}
-use lib.ListN.{length}
-use Rattle.base.specs.Matrix.{flat}
-use Rattle.base.specs.Fill.{filled}
-use Rattle.base.proofs.Matrix.{row-fits}
-use Rattle.base.proofs.Fill.{filled-none}
-use Rattle.dealing.specs.Pairs.{lowOf, highOf}
-use Rattle.dealing.proofs.Put.{length-put, put-row}
 use Rattle.dealing.proofs.write_pairs.Statement.{statement}
 use Rattle.dealing.proofs.write_pairs.Tie as tie
 
-abbrev Inv-loop : tie.InvT-loop
-Inv-loop p d n matrix q gs₀ hs₀ i₀ gs hs i =
-    (i ≤ n) × (length gs ≡ length gs₀) × (length hs ≡ length hs₀)
-    × (gs ≡ filled (flat d (lowOf p d matrix q)) (i * d) gs₀) × (hs ≡ filled (flat d (highOf p d matrix q)) (i * d) hs₀)
+write-pairs-by-requires : tie.Need-write-pairs-by-requires
+write-pairs-by-requires c κs = search needs
 
-abbrev μ-loop : tie.MeasureT-loop
-μ-loop p d n matrix q gs₀ hs₀ i₀ gs hs i = n - i
+write-pairs-by-requires-2 : tie.Need-write-pairs-by-requires-2
+write-pairs-by-requires-2 c κs = search needs
 
-loop-holds : tie.Need-loop-holds Inv-loop μ-loop
-loop-holds c = (search needs, search needs, search needs, simp zero-mul (filled-none _ _), simp zero-mul (filled-none _ _))
+write-pairs-by-requires-3 : tie.Need-write-pairs-by-requires-3
+write-pairs-by-requires-3 c κs = search needs
 
-write-pair-requires : tie.Need-write-pair-requires Inv-loop μ-loop
-write-pair-requires c κs =
-    let s = c .before .before .before .before .before .before .before .before in
-    let w = row-fits (s .args .n) (s .args .d) (c .before .before .before .loop .i) (omega arith) in
-    record {
-      above = s .pre .0 .0;
-      small = s .pre .0 .1;
-      row = omega (arith, w, s .pre .0 .2);
-      square = s .pre .0 .3;
-      fits = (omega (arith, w, s .pre .0 .4), omega (arith, w, s .pre .0 .5));
-      few = λ k l. s .pre .1 .0 k (omega (arith, w));
-      pairs = s .pre .1 .1;
-    }
+write-pairs-by-requires-4 : tie.Need-write-pairs-by-requires-4
+write-pairs-by-requires-4 c κs = search needs
 
-add-i : tie.Need-add-i Inv-loop μ-loop
-add-i c = search needs
+write-pairs-by-requires-5 : tie.Need-write-pairs-by-requires-5
+write-pairs-by-requires-5 c κs = search needs
 
-loop-less : tie.Need-loop-less Inv-loop μ-loop
-loop-less c = search needs
+same-length : tie.Need-same-length
+same-length c = search needs
 
-loop-again : tie.Need-loop-again Inv-loop μ-loop
-loop-again c =
-    let e = c .before .before .before .before .write-pair .ensures in
-    let l = c .before .before .before .before .before .before .before .before .loop in (
-      search needs,
-      ap length (e .0) ∙ length-put _ _ _ _ ∙ l .inv .1,
-      ap length (e .1) ∙ length-put _ _ _ _ ∙ l .inv .2,
-      e .0 ∙ put-row _ (lowOf _ _ _ _) _ _ _ (l .inv .3),
-      e .1 ∙ put-row _ (highOf _ _ _ _) _ _ _ (l .inv .4),
-    )
+same-length-2 : tie.Need-same-length-2
+same-length-2 c = search needs
 
-same-length : tie.Need-same-length Inv-loop μ-loop
-same-length c = c .before .loop .inv .1
+returns : tie.Need-returns
+returns c = rw (c .before .before .before .before .before .before .before .match .keys1) (c .before .before .before .before .write-pairs-by .ensures)
 
-same-length-2 : tie.Need-same-length-2 Inv-loop μ-loop
-same-length-2 c = c .before .loop .inv .2
+same-length-3 : tie.Need-same-length-3
+same-length-3 c = search needs
 
-returns : tie.Need-returns Inv-loop μ-loop
-returns c =
-    let e = le-antisymm (c .before .loop .inv .0) (c .loop-test .left) in
-    (rw e at (c .before .loop .inv .3), rw e at (c .before .loop .inv .4))
+same-length-4 : tie.Need-same-length-4
+same-length-4 c = search needs
+
+returns-2 : tie.Need-returns-2
+returns-2 c = rw (c .before .before .before .before .before .before .before .match .keys2) (c .before .before .before .before .write-pairs-by2 .ensures)
+
+same-length-5 : tie.Need-same-length-5
+same-length-5 c = search needs
+
+same-length-6 : tie.Need-same-length-6
+same-length-6 c = search needs
+
+returns-3 : tie.Need-returns-3
+returns-3 c = rw (c .before .before .before .before .before .before .before .match .keys3) (c .before .before .before .before .write-pairs-by3 .ensures)
+
+same-length-7 : tie.Need-same-length-7
+same-length-7 c = search needs
+
+same-length-8 : tie.Need-same-length-8
+same-length-8 c = search needs
+
+returns-4 : tie.Need-returns-4
+returns-4 c = rw (c .before .before .before .before .before .before .before .match .keys4) (c .before .before .before .before .write-pairs-by4 .ensures)
+
+same-length-9 : tie.Need-same-length-9
+same-length-9 c = search needs
+
+same-length-10 : tie.Need-same-length-10
+same-length-10 c = search needs
+
+returns-5 : tie.Need-returns-5
+returns-5 c = search needs
 
 pub write-pairs-spec : {M : Type 1} → statement M
 write-pairs-spec =
     tie.close
     (tie.spec
-    Inv-loop
-    μ-loop
-    loop-holds
-    write-pair-requires
-    add-i
-    loop-less
-    loop-again
+    write-pairs-by-requires
+    write-pairs-by-requires-2
+    write-pairs-by-requires-3
+    write-pairs-by-requires-4
+    write-pairs-by-requires-5
     same-length
     same-length-2
-    returns)
+    returns
+    same-length-3
+    same-length-4
+    returns-2
+    same-length-5
+    same-length-6
+    returns-3
+    same-length-7
+    same-length-8
+    returns-4
+    same-length-9
+    same-length-10
+    returns-5)
