@@ -39,7 +39,7 @@ module _ (p f t q : ℕ) where
   length-sub zero a = refl
   length-sub (suc n) a = simp (length-set, length-sub n a)
 
-  below-sub : (n : ℕ) (a : List ℕ) → 0 < p → Below p a → Below p (subTo p f t q n a)
+  pub below-sub : (n : ℕ) (a : List ℕ) → 0 < p → Below p a → Below p (subTo p f t q n a)
   unfolding subTo subEntry
   below-sub zero a hp all = all
   below-sub (suc n) a hp all = below-set p (subTo p f t q n a) (t + n) _ (mod-lt _ hp) (below-sub n a hp all)

@@ -2,8 +2,9 @@
 -- buffers: the two lent buffers, the matrix and the marks of its rows, as one
 -- Fits: the buffers hold R rows of W entries, at most 64, and R marks
 -- Ready: besides, p is a prime and every entry is below it
+-- Reciprocal: r is 65536 h / p rounded down, for p up to 257
 -- RowCleared, RowsCleared, ColumnCleared, RowUsed, ColumnPassed, Reduction: what clear_row, clear_rows, clear_column, use_row, pass_column and reduce leave
-use Prim.Native.Nat.{ℕ, _*_, _≤_}
+use Prim.Native.Nat.{ℕ, _*_, _/_, _≤_, _<_}
 use mathlib.Core.Path.{_≡_}
 use mathlib.Core.List.{List}
 use lib.ListN.{length}
@@ -23,6 +24,12 @@ pub record Ready (p R W : ℕ) (a u : List ℕ) : Type 0 where
   pub fits : Fits R W a u
   pub prime : Prime p
   pub below : Below p a
+
+pub record Reciprocal (p h r : ℕ) : Type 0 where
+  pub pos : 0 < p
+  pub small : p ≤ 257
+  pub less : h < p
+  pub is : r ≡ h * 65536 / p
 
 pub record RowCleared (p W k c r : ℕ) (a b : List ℕ) : Type 0 where
   pub matrix : b ≡ clearRow p W k c r a

@@ -34,7 +34,7 @@ sub-row-requires : tie.Need-sub-row-requires
 sub-row-requires c κs =
     let s = c .before .before .before .before .before in
     let x = s .args in
-    omega (arith, s .pre .1 (x .r * x .width + x .col))
+    (omega (arith, s .pre .1 (x .r * x .width + x .col)), s .pre .1)
 
 same-length : tie.Need-same-length
 same-length c = search needs
