@@ -54,110 +54,101 @@ fn four(number: u16, x: u16, y: u16, z: u16, w: u16) {
 }
 
 // DEALING AND JUDGING
-fn points(k: &[u16; 15], matrix: &mut [u16]) {
-    print(c_api::mavdrusek_points(k[1], k[2], k[3], k[4], matrix));
+fn points(p: u16, l: u16, e: u16, n: u16, matrix: &mut [u16]) {
+    print(c_api::mavdrusek_points(p, l, e, n, matrix));
     print_words(matrix);
 }
 
 fn deal(
-    k: &[u16; 15],
+    p: u16,
+    l: u16,
+    e: u16,
+    n: u16,
+    holder: u16,
     matrix: &[u16],
     secrets: &[u16],
     random: &[u16],
     g: &mut [u16],
     h: &mut [u16],
 ) {
-    print(c_api::mavdrusek_deal(k[1], k[2], k[3], k[4], matrix, secrets, random, k[5], g, h));
+    print(c_api::mavdrusek_deal(p, l, e, n, matrix, secrets, random, holder, g, h));
     print_words(g);
     print_words(h);
 }
 
 fn deal_all(
-    k: &[u16; 15],
+    p: u16,
+    l: u16,
+    e: u16,
+    n: u16,
     matrix: &[u16],
     secrets: &[u16],
     random: &[u16],
     gs: &mut [u16],
     hs: &mut [u16],
 ) {
-    print(c_api::mavdrusek_deal_all(k[1], k[2], k[3], k[4], matrix, secrets, random, gs, hs));
+    print(c_api::mavdrusek_deal_all(p, l, e, n, matrix, secrets, random, gs, hs));
     print_words(gs);
     print_words(hs);
 }
 
-fn pair_value(k: &[u16; 15], matrix: &[u16], g: &[u16]) {
+fn pair_value(p: u16, l: u16, e: u16, n: u16, to: u16, matrix: &[u16], g: &[u16]) {
     let mut x: u16 = 7777;
-    let number = c_api::mavdrusek_pair_value(k[1], k[2], k[3], k[4], matrix, g, k[5], &mut x);
+    let number = c_api::mavdrusek_pair_value(p, l, e, n, matrix, g, to, &mut x);
     one(number, x);
 }
 
-fn judge(k: &[u16; 15], matrix: &[u16], h: &[u16], values: &[u16]) {
+fn judge(p: u16, l: u16, e: u16, n: u16, matrix: &[u16], h: &[u16], values: &[u16]) {
     let mut x: u16 = 7777;
     let mut y: u16 = 7777;
-    let number = c_api::mavdrusek_judge(k[1], k[2], k[3], k[4], matrix, h, values, &mut x, &mut y);
+    let number = c_api::mavdrusek_judge(p, l, e, n, matrix, h, values, &mut x, &mut y);
     two(number, x, y);
 }
 
-fn outcome(k: &[u16; 15], g: &[u16], verdicts: &[u16], shares: &mut [u16]) {
+fn outcome(p: u16, l: u16, e: u16, n: u16, g: &[u16], verdicts: &[u16], shares: &mut [u16]) {
     let mut x: u16 = 7777;
     let mut y: u16 = 7777;
-    let number = c_api::mavdrusek_outcome(
-        k[1],
-        k[2],
-        k[3],
-        k[4],
-        g,
-        verdicts,
-        shares,
-        &mut x,
-        &mut y,
-    );
+    let number = c_api::mavdrusek_outcome(p, l, e, n, g, verdicts, shares, &mut x, &mut y);
     two(number, x, y);
     print_words(shares);
 }
 
-fn rehearse(k: &[u16; 15], matrix: &[u16], gs: &[u16], hs: &[u16]) {
+fn rehearse(p: u16, l: u16, e: u16, n: u16, matrix: &[u16], gs: &[u16], hs: &[u16]) {
     let mut x: u16 = 7777;
     let mut y: u16 = 7777;
     let mut z: u16 = 7777;
-    let number = c_api::mavdrusek_rehearse(
-        k[1],
-        k[2],
-        k[3],
-        k[4],
-        matrix,
-        gs,
-        hs,
-        &mut x,
-        &mut y,
-        &mut z,
-    );
+    let number = c_api::mavdrusek_rehearse(p, l, e, n, matrix, gs, hs, &mut x, &mut y, &mut z);
     three(number, x, y, z);
 }
 
-fn combine(k: &[u16; 15], constants: &[u16], shares: &[u16]) {
+fn combine(p: u16, constants: &[u16], shares: &[u16]) {
     let mut x: u16 = 7777;
-    let number = c_api::mavdrusek_combine(k[1], constants, shares, &mut x);
+    let number = c_api::mavdrusek_combine(p, constants, shares, &mut x);
     one(number, x);
 }
 
 fn dealing_call(
-    k: &[u16; 15],
+    call: u16,
+    p: u16,
+    l: u16,
+    e: u16,
+    n: u16,
+    x: u16,
     a: &mut [u16],
     b: &mut [u16],
     c: &mut [u16],
     d: &mut [u16],
-    e: &mut [u16],
+    f: &mut [u16],
 ) {
-    match k[0] {
-        0 => points(k, a),
-        1 => deal(k, a, b, c, d, e),
-        2 => deal_all(k, a, b, c, d, e),
-        3 => pair_value(k, a, b),
-        4 => judge(k, a, b, c),
-        5 => outcome(k, a, b, c),
-        6 => rehearse(k, a, b, c),
-        _ => combine(k, a, b),
+    match call {
+        0 => points(p, l, e, n, a),
+        1 => deal(p, l, e, n, x, a, b, c, d, f),
+        2 => deal_all(p, l, e, n, a, b, c, d, f),
+        3 => pair_value(p, l, e, n, x, a, b),
+        4 => judge(p, l, e, n, a, b, c),
+        5 => outcome(p, l, e, n, a, b, c),
+        6 => rehearse(p, l, e, n, a, b, c),
+        _ => combine(p, a, b),
     }
 }
 
@@ -168,63 +159,72 @@ fn half(x: u16) -> u32
     x as u32
 }
 
-fn set(k: &[u16; 15]) -> u32 {
-    half(k[5]) + 65536 * half(k[6])
+fn set(low: u16, high: u16) -> u32 {
+    half(low) + 65536 * half(high)
 }
 
-fn judge_set(k: &[u16; 15], matrix: &[u16], out: &mut [u16]) {
+fn judge_set(
+    p: u16,
+    l: u16,
+    e: u16,
+    n: u16,
+    set: u32,
+    position: u16,
+    matrix: &[u16],
+    out: &mut [u16],
+) {
     let mut x: u16 = 7777;
-    let number = c_api::mavdrusek_judge_set(
-        k[1],
-        k[2],
-        k[3],
-        k[4],
-        matrix,
-        set(k),
-        k[7],
-        out,
-        &mut x,
-    );
+    let number = c_api::mavdrusek_judge_set(p, l, e, n, matrix, set, position, out, &mut x);
     one(number, x);
     print_words(out);
 }
 
-fn determines(k: &[u16; 15], matrix: &[u16]) {
+fn determines(p: u16, l: u16, e: u16, n: u16, set: u32, matrix: &[u16]) {
     let mut x: u16 = 7777;
-    let number = c_api::mavdrusek_determines(k[1], k[2], k[3], k[4], matrix, set(k), &mut x);
+    let number = c_api::mavdrusek_determines(p, l, e, n, matrix, set, &mut x);
     one(number, x);
 }
 
-fn private(k: &[u16; 15], matrix: &[u16]) {
+fn private(p: u16, l: u16, e: u16, n: u16, set: u32, matrix: &[u16]) {
     let mut x: u16 = 7777;
-    let number = c_api::mavdrusek_private(k[1], k[2], k[3], k[4], matrix, set(k), &mut x);
+    let number = c_api::mavdrusek_private(p, l, e, n, matrix, set, &mut x);
     one(number, x);
 }
 
-fn open(k: &[u16; 15], matrix: &[u16], shares: &[u16], secrets: &mut [u16]) {
+fn open(
+    p: u16,
+    l: u16,
+    e: u16,
+    n: u16,
+    set: u32,
+    matrix: &[u16],
+    shares: &[u16],
+    secrets: &mut [u16],
+) {
     let mut x: u16 = 7777;
-    let number = c_api::mavdrusek_open(
-        k[1],
-        k[2],
-        k[3],
-        k[4],
-        matrix,
-        set(k),
-        shares,
-        secrets,
-        &mut x,
-    );
+    let number = c_api::mavdrusek_open(p, l, e, n, matrix, set, shares, secrets, &mut x);
     one(number, x);
     print_words(secrets);
 }
 
-fn opening_call(k: &[u16; 15], a: &mut [u16], b: &mut [u16], c: &mut [u16]) {
-    match k[0] {
-        8 => judge_set(k, a, b),
-        9 => determines(k, a),
-        10 => private(k, a),
-        11 => open(k, a, b, c),
-        _ => print(c_api::mavdrusek_field(k[1])),
+fn opening_call(
+    call: u16,
+    p: u16,
+    l: u16,
+    e: u16,
+    n: u16,
+    set: u32,
+    position: u16,
+    a: &mut [u16],
+    b: &mut [u16],
+    c: &mut [u16],
+) {
+    match call {
+        8 => judge_set(p, l, e, n, set, position, a, b),
+        9 => determines(p, l, e, n, set, a),
+        10 => private(p, l, e, n, set, a),
+        11 => open(p, l, e, n, set, a, b, c),
+        _ => print(c_api::mavdrusek_field(p)),
     }
 }
 
@@ -234,48 +234,97 @@ fn written(number: u16, out: &[u8]) {
     print_bytes(out);
 }
 
-fn write_setup(k: &[u16; 15], matrix: &[u16], out: &mut [u8]) {
+fn write_setup(p: u16, l: u16, e: u16, n: u16, matrix: &[u16], out: &mut [u8]) {
+    written(c_api::mavdrusek_write_setup(p, l, e, n, matrix, out), out);
+}
+
+fn write_dealing(
+    p: u16,
+    l: u16,
+    e: u16,
+    n: u16,
+    dealing: u16,
+    holder: u16,
+    g: &[u16],
+    h: &[u16],
+    out: &mut [u8],
+) {
     written(
-        c_api::mavdrusek_write_setup(k[1], k[2], k[3], k[4], matrix, out),
+        c_api::mavdrusek_write_dealing(p, l, e, n, dealing, holder, g, h, out),
         out,
     );
 }
 
-fn write_dealing(k: &[u16; 15], g: &[u16], h: &[u16], out: &mut [u8]) {
+fn write_pair_value(
+    p: u16,
+    l: u16,
+    e: u16,
+    n: u16,
+    dealing: u16,
+    sender: u16,
+    receiver: u16,
+    value: u16,
+    out: &mut [u8],
+) {
     written(
-        c_api::mavdrusek_write_dealing(k[1], k[2], k[3], k[4], k[5], k[6], g, h, out),
+        c_api::mavdrusek_write_pair_value(p, l, e, n, dealing, sender, receiver, value, out),
         out,
     );
 }
 
-fn write_pair_value(k: &[u16; 15], out: &mut [u8]) {
+fn write_verdict(
+    p: u16,
+    l: u16,
+    e: u16,
+    n: u16,
+    dealing: u16,
+    holder: u16,
+    verdict: u16,
+    out: &mut [u8],
+) {
     written(
-        c_api::mavdrusek_write_pair_value(k[1], k[2], k[3], k[4], k[5], k[6], k[7], k[8], out),
+        c_api::mavdrusek_write_verdict(p, l, e, n, dealing, holder, verdict, out),
         out,
     );
 }
 
-fn write_verdict(k: &[u16; 15], out: &mut [u8]) {
+fn write_share(
+    p: u16,
+    l: u16,
+    e: u16,
+    n: u16,
+    dealing: u16,
+    holder: u16,
+    column: u16,
+    value: u16,
+    out: &mut [u8],
+) {
     written(
-        c_api::mavdrusek_write_verdict(k[1], k[2], k[3], k[4], k[5], k[6], k[7], out),
+        c_api::mavdrusek_write_share(p, l, e, n, dealing, holder, column, value, out),
         out,
     );
 }
 
-fn write_share(k: &[u16; 15], out: &mut [u8]) {
-    written(
-        c_api::mavdrusek_write_share(k[1], k[2], k[3], k[4], k[5], k[6], k[7], k[8], out),
-        out,
-    );
-}
-
-fn writing_call(k: &[u16; 15], a: &[u16], b: &[u16], out: &mut [u8]) {
-    match k[0] {
-        13 => write_setup(k, a, out),
-        14 => write_dealing(k, a, b, out),
-        15 => write_pair_value(k, out),
-        16 => write_verdict(k, out),
-        _ => write_share(k, out),
+fn writing_call(
+    call: u16,
+    p: u16,
+    l: u16,
+    e: u16,
+    n: u16,
+    x: u16,
+    y: u16,
+    z: u16,
+    w: u16,
+    a: &[u16],
+    b: &[u16],
+    out: &mut [u8],
+) {
+    match call {
+        13 => write_setup(p, l, e, n, a, out),
+        14 => write_dealing(p, l, e, n, x, y, a, b, out),
+        15 => write_pair_value(p, l, e, n, x, y, z, w, out),
+        16 => write_verdict(p, l, e, n, x, y, z, out),
+        _ => write_share(p, l, e, n, x, y, z, w, out),
     }
 }
 
@@ -293,78 +342,58 @@ fn read_setup_matrix(part: &[u8], matrix: &mut [u16]) {
     print_words(matrix);
 }
 
-fn read_dealing(k: &[u16; 15], part: &[u8], g: &mut [u16], h: &mut [u16]) {
+fn read_dealing(p: u16, l: u16, e: u16, n: u16, part: &[u8], g: &mut [u16], h: &mut [u16]) {
     let mut x: u16 = 7777;
     let mut y: u16 = 7777;
-    let number = c_api::mavdrusek_read_dealing(k[1], k[2], k[3], k[4], part, g, h, &mut x, &mut y);
+    let number = c_api::mavdrusek_read_dealing(p, l, e, n, part, g, h, &mut x, &mut y);
     two(number, x, y);
     print_words(g);
     print_words(h);
 }
 
-fn read_pair_value(k: &[u16; 15], part: &[u8]) {
+fn read_pair_value(p: u16, l: u16, e: u16, n: u16, part: &[u8]) {
     let mut x: u16 = 7777;
     let mut y: u16 = 7777;
     let mut z: u16 = 7777;
     let mut w: u16 = 7777;
-    let number = c_api::mavdrusek_read_pair_value(
-        k[1],
-        k[2],
-        k[3],
-        k[4],
-        part,
-        &mut x,
-        &mut y,
-        &mut z,
-        &mut w,
-    );
+    let number = c_api::mavdrusek_read_pair_value(p, l, e, n, part, &mut x, &mut y, &mut z, &mut w);
     four(number, x, y, z, w);
 }
 
-fn read_verdict(k: &[u16; 15], part: &[u8]) {
+fn read_verdict(p: u16, l: u16, e: u16, n: u16, part: &[u8]) {
     let mut x: u16 = 7777;
     let mut y: u16 = 7777;
     let mut z: u16 = 7777;
-    let number = c_api::mavdrusek_read_verdict(
-        k[1],
-        k[2],
-        k[3],
-        k[4],
-        part,
-        &mut x,
-        &mut y,
-        &mut z,
-    );
+    let number = c_api::mavdrusek_read_verdict(p, l, e, n, part, &mut x, &mut y, &mut z);
     three(number, x, y, z);
 }
 
-fn read_share(k: &[u16; 15], part: &[u8]) {
+fn read_share(p: u16, l: u16, e: u16, n: u16, part: &[u8]) {
     let mut x: u16 = 7777;
     let mut y: u16 = 7777;
     let mut z: u16 = 7777;
     let mut w: u16 = 7777;
-    let number = c_api::mavdrusek_read_share(
-        k[1],
-        k[2],
-        k[3],
-        k[4],
-        part,
-        &mut x,
-        &mut y,
-        &mut z,
-        &mut w,
-    );
+    let number = c_api::mavdrusek_read_share(p, l, e, n, part, &mut x, &mut y, &mut z, &mut w);
     four(number, x, y, z, w);
 }
 
-fn reading_call(k: &[u16; 15], part: &[u8], a: &mut [u16], b: &mut [u16]) {
-    match k[0] {
+fn reading_call(
+    call: u16,
+    p: u16,
+    l: u16,
+    e: u16,
+    n: u16,
+    part: &[u8],
+    a: &mut [u16],
+    b: &mut [u16],
+) {
+    match call {
         18 => read_setup_head(part),
         19 => read_setup_matrix(part, a),
-        20 => read_dealing(k, part, a, b),
-        21 => read_pair_value(k, part),
-        22 => read_verdict(k, part),
-        _ => read_share(k, part),
+        20 => read_dealing(p, l, e, n, part, a, b),
+        21 => read_pair_value(p, l, e, n, part),
+        22 => read_verdict(p, l, e, n, part),
+        _ => read_share(p, l, e, n, part),
     }
 }
 
@@ -389,15 +418,22 @@ fn call(
     b: &mut [u16],
     c: &mut [u16],
     d: &mut [u16],
-    e: &mut [u16],
+    f: &mut [u16],
     bytes: &mut [u8],
 ) {
+    let p = k[1];
+    let l = k[2];
+    let e = k[3];
+    let n = k[4];
+    let x = k[5];
+    let y = k[6];
+    let z = k[7];
     match k[0] {
-        0..=7 => dealing_call(k, a, b, c, d, e),
+        0..=7 => dealing_call(k[0], p, l, e, n, x, a, b, c, d, f),
         12 => holder_file(bytes),
-        13..=17 => writing_call(k, a, b, bytes),
-        18..=23 => reading_call(k, bytes, a, b),
-        _ => opening_call(k, a, b, c),
+        13..=17 => writing_call(k[0], p, l, e, n, x, y, z, k[8], a, b, bytes),
+        18..=23 => reading_call(k[0], p, l, e, n, bytes, a, b),
+        _ => opening_call(k[0], p, l, e, n, set(x, y), z, a, b, c),
     }
 }
 

@@ -1,6 +1,7 @@
 -- The laws of pairs: where they lie, how large they are, and that the two halves of a sum of pairs are the two sums.
 use Prim.Native.Nat.{ℕ, zero, suc, _+_, _*_, _/_, _%_, _≤_, _<_}
 use mathlib.Core.Path.{_≡_, refl, sym, ap, _∙_}
+use mathlib.Core.Bool.{true}
 use mathlib.Core.List.{List}
 use native.Mathlib.Nat.{mul-le-mul}
 use native.Mathlib.Omega.{arith}
@@ -11,6 +12,8 @@ use Rattle.base.specs.Fill.{tab, filled}
 use Rattle.base.specs.Matrix.{entry, flat}
 use Rattle.base.proofs.Fill.{tab-ext, getD-filled, flat-at}
 use Rattle.base.proofs.Matrix.{row-fits, entry-fits}
+use Rattle.field.specs.Fields.{isField}
+use Rattle.field.proofs.Fields.{five-elim, field-five}
 use Rattle.linear.specs.Dot.{dot, along}
 use Rattle.linear.proofs.Dot.{dot-ext, dot-same, dot-comm, dot-comb-right}
 use Rattle.dealing.specs.Parts.{entryG, entryH}
@@ -83,3 +86,7 @@ module _
       pub all-high : (hs : List ℕ) → length hs ≡ n * d → filled (flat d (highOf p d m q)) (n * d) hs ≡ filled (flat d (entryH p d m F)) (n * d) hs
       all-high hs e =
           filled-all _ _ hs e ∙ tab-ext _ _ _ (λ t l. let w = place-at d n t l in high-is _ _ (w .1) (w .2)) ∙ sym (filled-all _ _ hs e)
+
+-- the one field above 257
+pub largest : (p : ℕ) → isField p ≡ true → 257 < p → p ≡ 65521
+largest p e = five-elim p (λ q. 257 < q → q ≡ 65521) (λ l. absurd (omega arith)) (λ l. absurd (omega arith)) (λ l. absurd (omega arith)) (λ l. absurd (omega arith)) (λ l. refl) (field-five p e)

@@ -1,11 +1,13 @@
 // Dealing: the open calls. Each first works out its refusal by the table of scheme's specs/Calls.antt; where there is none it
 // works on inputs that are in order. The work neither branches on nor indexes by a secret or a random entry.
 ghost use mathlib.Core.Path.{_≡_};
+ghost use mathlib.Core.Bool.{true};
 ghost use Prim.Native.Nat.{ℕ, _+_, _-_, _*_, _%_, _<_, _≤_};
 ghost use lib.ListN.{length};
 ghost use Rattle.base.specs.Rules.{refusal, refusalFrom};
 ghost use Rattle.base.specs.Fill.{filled};
 ghost use Rattle.base.specs.Matrix.{flat};
+ghost use Rattle.field.specs.Fields.{isField};
 ghost use Rattle.linear.specs.Dot.{dot, along};
 ghost use Rattle.scheme.specs.Setup.{setupOf};
 ghost use Rattle.scheme.specs.Answers.{paperWritten};
@@ -229,16 +231,18 @@ fn write_paired(
     write_pairs(p, d, n, matrix, &q, gs, hs);
 }
 
-// Every holder's part. The way depends on the field alone: the products of larger fields leave no room for pairs.
+// Every holder's part. The way depends on the field alone: the products of the largest leave no room for pairs. Its number is a literal, since a division by
+// a variable would take a time that depends on the entries.
 fn write_all(p: u16, d: usize, n: usize, matrix: &[u16], f: &[u16], gs: &mut [u16], hs: &mut [u16])
     requires { ⌜ (0 < p) × (d ≤ 16) × (length (now matrix) ≡ n * d) × (length (now f) ≡ 256) × (length (now gs) ≡ n * d) × (length (now hs) ≡ n * d) ⌝ }
     requires { ⌜ Under p (n * d) (now matrix) ⌝ }
     requires { ⌜ Under p (d * d) (now f) ⌝ }
+    requires { ⌜ isField p ≡ true ⌝ }
     ensures { λ _. ⌜ now (gs .exit) ≡ filled (flat d (entryG p d (now (matrix .entry)) (now (f .entry)))) (n * d) (now (gs .entry)) ⌝ }
     ensures { λ _. ⌜ now (hs .exit) ≡ filled (flat d (entryH p d (now (matrix .entry)) (now (f .entry)))) (n * d) (now (hs .entry)) ⌝ }
 {
     if 257 < p {
-        write_parts(p, d, n, matrix, f, gs, hs);
+        write_parts(65521, d, n, matrix, f, gs, hs);
         return;
     }
     write_paired(p, d, n, matrix, f, gs, hs);

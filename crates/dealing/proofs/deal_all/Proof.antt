@@ -68,7 +68,7 @@ write-all-requires c κs =
       ),
       (
         λ k l. ok .0 .setup .matrix .small k (rw d at l),
-        λ k l. dealt-under (setupOf (x .s) (x .matrix .now)) _ _ _ _ few refl F (ok .0) k (rw d at l),
+        (λ k l. dealt-under (setupOf (x .s) (x .matrix .now)) _ _ _ _ few refl F (ok .0) k (rw d at l), ok .0 .setup .limits .field),
       ),
     )
 

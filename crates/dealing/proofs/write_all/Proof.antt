@@ -1,7 +1,8 @@
--- Entries below p are at most 256 where p is at most 257.
+-- Entries below p are at most 256 where p is at most 257; the one field above is 65521.
 use Prim.Native.Nat.{_*_}
 use native.Mathlib.Omega.{arith}
 use borrow.Author.Needs.{needs}
+use Rattle.dealing.proofs.Pairs.{largest}
 use Rattle.dealing.proofs.write_all.Statement.{statement}
 use Rattle.dealing.proofs.write_all.Tie as tie
 
@@ -15,12 +16,14 @@ same-length-2 : tie.Need-same-length-2
 same-length-2 c = search needs
 
 returns : tie.Need-returns
-returns c = search needs
+returns c =
+    let s = c .before .before .before .before .before .before .before .before .before .before .before .before in
+    rw (largest (s .args .p) (s .pre .1 .1 .1) (c .before .before .before .before .before .before .before .if1 .taken)) (c .before .before .before .before .write-parts .ensures)
 
 write-paired-requires : tie.Need-write-paired-requires
 write-paired-requires c κs =
     let s = c .before .before .before .before .before .before .before in
-    (search needs, (λ k l. omega (arith, s .pre .1 .0 k l), λ k l. omega (arith, s .pre .1 .1 k l)))
+    (search needs, (λ k l. omega (arith, s .pre .1 .0 k l), λ k l. omega (arith, s .pre .1 .1 .0 k l)))
 
 same-length-3 : tie.Need-same-length-3
 same-length-3 c = search needs
