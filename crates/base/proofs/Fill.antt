@@ -1,16 +1,22 @@
--- The laws of `tab` and `filled`: lengths, entries, and the store by which a loop fills one entry, or one row of a flat matrix, more.
+-- The laws of `tab`, `laid` and `filled`: lengths, entries, and the store by which a loop writes one entry, or one row of a flat matrix, more.
 use mathlib.Core.Path.{_≡_, refl, ap, sym, _∙_}
 use mathlib.Core.List.{List, [], _∷_}
-use Prim.Native.Nat.{ℕ, zero, suc, _+_, _*_, _/_, _%_, _<_, _≤_}
-use native.Mathlib.Nat.{le-of-suc-le-suc, not-suc-le-zero, add-assoc, suc-mul, le-antisymm, add-zero}
+use mathlib.Core.Logic.{_⊎_, inl, inr, ⊎-elim}
+use Prim.Native.Nat.{ℕ, zero, suc, _+_, _*_, _<_, _≤_}
+use native.Mathlib.Nat.{le-of-suc-le-suc, not-suc-le-zero, add-assoc, suc-mul, le-antisymm, add-zero, zero-add, add-suc}
 use native.Mathlib.Numerals.{add-one}
 use native.Mathlib.Omega.{arith}
 use lib.Arith.{digits-div, digits-mod}
-use lib.ListN.{length, getD, set}
-use lib.Seq.{ext-getD}
+use lib.ListN.{length, getD, set, length-set}
+use lib.Seq.{ext-getD, getD-set-same, getD-set-other}
 use Rattle.base.specs.Search.{Vec}
-use Rattle.base.specs.Fill.{tabFrom, tab, filled}
+use Rattle.base.specs.Fill.{tabFrom, tab, laid, filled}
 use Rattle.base.specs.Matrix.{flat}
+use Rattle.base.proofs.Choice.{either}
+
+-- a place outside the n entries from t on
+abbrev pub Outside : (t n k : ℕ) → Type 0
+Outside t n k = (k < t) ⊎ (t + n ≤ k)
 
 module _ {A : Type 0} where
   length-tabFrom : (i n : ℕ) (f : ℕ → A) → length (tabFrom i n f) ≡ n
@@ -44,6 +50,54 @@ module _ {A : Type 0} where
   pub tab-ext : (n : ℕ) (f g : ℕ → A) → ((k : ℕ) → k < n → f k ≡ g k) → tab n f ≡ tab n g
   unfolding tab
   tab-ext n f g h = tabFrom-ext 0 n f g (λ k l. h k (omega arith))
+
+  pub laid-none : (f : ℕ → A) (t : ℕ) (a : List A) → a ≡ laid f t 0 a
+  unfolding laid
+  laid-none f t a = refl
+
+  -- one store more, in the form that a loop's turn asks
+  pub laid-store : (f : ℕ → A) (t n : ℕ) (x l : List A) (v : A) → l ≡ laid f t n x → v ≡ f n → set l (t + n) v ≡ laid f t (n + 1) x
+  unfolding laid
+  laid-store f t n x l v e h = rw (e, h, add-one n) refl
+
+  pub length-laid : (f : ℕ → A) (t n : ℕ) (a : List A) → length (laid f t n a) ≡ length a
+  unfolding laid
+  length-laid f t zero a = refl
+  length-laid f t (suc n) a = simp (length-set, length-laid f t n a)
+
+  pub laid-out : (f : ℕ → A) (t n : ℕ) (a : List A) (k : ℕ) (z : A) → Outside t n k → getD (laid f t n a) k z ≡ getD a k z
+  unfolding laid
+  laid-out f t zero a k z h = refl
+  laid-out f t (suc n) a k z h =
+      getD-set-other (laid f t n a) (t + n) k _ z (⊎-elim (λ l. omega arith) (λ l. omega arith) h)
+      ∙ laid-out f t n a k z (⊎-elim (λ l. inl l) (λ l. inr (omega arith)) h)
+
+  pub laid-in : (f : ℕ → A) (t n : ℕ) (a : List A) (c : ℕ) (z : A) → t + n ≤ length a → c < n → getD (laid f t n a) (t + c) z ≡ f c
+  unfolding laid
+  laid-in f t zero a c z fits h = absurd (omega arith)
+  laid-in f t (suc n) a c z fits h =
+      either c n (getD (set (laid f t n a) (t + n) (f n)) (t + c) z ≡ f c)
+      (λ e. rw e (getD-set-same (laid f t n a) (t + n) (f n) z (omega (arith, length-laid f t n a))))
+      (λ e. getD-set-other (laid f t n a) (t + n) (t + c) (f n) z (omega (arith, e)) ∙ laid-in f t n a c z (omega arith) (omega (arith, e)))
+
+  pub laid-ext : (f g : ℕ → A) (t n : ℕ) (a : List A) → ((j : ℕ) → j < n → f j ≡ g j) → laid f t n a ≡ laid g t n a
+  unfolding laid
+  laid-ext f g t zero a h = refl
+  laid-ext f g t (suc n) a h = rw (laid-ext f g t n a (λ j l. h j (omega arith)), h n (omega arith)) refl
+
+  -- in two parts, where the second may be given by another function
+  pub laid-parts : (f g : ℕ → A) (t m n : ℕ) (a : List A) → ((j : ℕ) → j < n → g j ≡ f (m + j))
+      → laid g (t + m) n (laid f t m a) ≡ laid f t (m + n) a
+  unfolding laid
+  laid-parts f g t m zero a h = rw add-zero refl
+  laid-parts f g t m (suc n) a h =
+      rw (laid-parts f g t m n a (λ j l. h j (omega arith)), h n (omega arith), add-assoc t m n, add-suc m n) refl
+
+  -- the whole list, where its entries may be given by another function
+  pub laid-whole : (f g : ℕ → A) (n : ℕ) (z : A) (a : List A) → length a ≡ n → ((k : ℕ) → k < n → f k ≡ g k) → laid f 0 n a ≡ tab n g
+  laid-whole f g n z a e h =
+      tab-is n g z (laid f 0 n a) (length-laid f 0 n a ∙ e)
+      (λ k l. ap (λ i. getD (laid f 0 n a) i z) (sym (zero-add k)) ∙ laid-in f 0 n a k z (omega (arith, e)) l ∙ h k l)
 
   pub filled-none : (f : ℕ → A) (l : List A) → l ≡ filled f 0 l
   unfolding filled
@@ -86,6 +140,17 @@ module _ {A : Type 0} where
 
   pub flat-at : (d : ℕ) (f : ℕ → ℕ → A) (i c : ℕ) → c < d → f i c ≡ flat d f (i * d + c)
   flat-at d f i c h = rw (digits-div i h, digits-mod i h)
+
+  -- a list that is filled up to where the part begins is then filled up to where it ends
+  pub laid-filled : (f g : ℕ → A) (t n : ℕ) (x l : List A) → l ≡ filled g t x → ((j : ℕ) → j < n → f j ≡ g (t + j)) → laid f t n l ≡ filled g (t + n) x
+  unfolding laid
+  laid-filled f g t zero x l e h = rw (add-zero t) e
+  laid-filled f g t (suc n) x l e h =
+      rw (add-suc t n, ← add-one (t + n)) (filled-store g (t + n) x (laid f t n l) (f n) (laid-filled f g t n x l e (λ j m. h j (omega arith))) (h n (omega arith)))
+
+  -- a row of a matrix that lies flat
+  pub laid-row : (d : ℕ) (f : ℕ → ℕ → A) (i : ℕ) (x l : List A) → l ≡ filled (flat d f) (i * d) x → laid (f i) (i * d) d l ≡ filled (flat d f) ((i + 1) * d) x
+  laid-row d f i x l e = laid-filled (f i) (flat d f) (i * d) d x l e (λ j m. flat-at d f i j m) ∙ ap (λ n. filled (flat d f) n x) (omega arith)
 
   -- a store into a matrix that lies flat
   pub flat-store : (d : ℕ) (f : ℕ → ℕ → A) (i c : ℕ) (x l : List A) (v : A) → l ≡ filled (flat d f) (i * d + c) x → c < d → v ≡ f i c

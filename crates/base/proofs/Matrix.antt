@@ -1,9 +1,9 @@
 -- Index arithmetic of flat matrices: a row and an entry lie inside, two rows do not overlap; and what keeps elements below p.
 use Prim.Native.Nat.{ℕ, zero, suc, _+_, _*_, _/_, _%_, _≤_, _<_}
-use mathlib.Core.Bool.{Bool, true}
+use mathlib.Core.Bool.{true}
 use mathlib.Core.List.{List}
 use mathlib.Core.Logic.{_≢_, _⊎_, inl, inr}
-use mathlib.Core.Path.{_≡_, refl, ap}
+use mathlib.Core.Path.{_≡_, ap}
 use native.Mathlib.Nat.{mul-le-mul-right, suc-mul, mul-zero, mod-lt, div-lt-iff-lt-mul}
 use native.Mathlib.Decide.{decLt}
 use native.Mathlib.Omega.{arith}
@@ -11,8 +11,10 @@ use lib.Dec.{ltb}
 use lib.ListN.{length, getD, set, List·getD-eq-default}
 use lib.Seq.{getD-set-same, getD-set-other, set-out}
 use borrow.Author.Tests.{ltb-true, lt-ltb}
+use Rattle.base.specs.Fill.{tab, laid}
 use Rattle.base.specs.Matrix.{Below, allBelow}
 use Rattle.base.proofs.Choice.{either}
+use Rattle.base.proofs.Fill.{getD-tab, length-tab}
 use Rattle.base.proofs.Search.{every-at, every-all}
 
 pub row-fits : (rows d r : ℕ) → r < rows → r * d + d ≤ rows * d
@@ -35,6 +37,19 @@ below-set p a i v hv all k =
     go : k ≡ i → Dec (i < length a) → getD (set a i v) k 0 < p
     go e (yes l) = rw (e, getD-set-same a i v 0 l) hv
     go e (no n) = rw (set-out a i v (omega arith)) (all k)
+
+pub below-laid : (p : ℕ) (f : ℕ → ℕ) (t n : ℕ) (a : List ℕ) → ((j : ℕ) → f j < p) → Below p a → Below p (laid f t n a)
+unfolding laid
+below-laid p f t zero a h all = all
+below-laid p f t (suc n) a h all = below-set p (laid f t n a) (t + n) (f n) (h n) (below-laid p f t n a h all)
+
+-- past the end stands 0, so p is above 0
+pub below-tab : (p n : ℕ) (f : ℕ → ℕ) → 0 < p → ((k : ℕ) → k < n → f k < p) → Below p (tab n f)
+below-tab p n f pos h k = go (decLt k n)
+  where
+    go : Dec (k < n) → getD (tab n f) k 0 < p
+    go (yes l) = rw (getD-tab n f 0 k l) (h k l)
+    go (no l) = rw (List·getD-eq-default (tab n f) 0 {n = k} (omega (arith, length-tab n f))) pos
 
 -- the test and the fact; past the end stands 0, so p is above 0
 pub below-by : (p : ℕ) (l : List ℕ) → 0 < p → allBelow p l ≡ true → Below p l

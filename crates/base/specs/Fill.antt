@@ -1,8 +1,10 @@
 -- Lists that a function gives.
 -- tab: f 0, f 1, .., f (n - 1) as a list
+-- laid: the list a with f 0, .., f (n - 1) written from place t on
 -- filled: the list l with its first k entries replaced by f 0, f 1, .., f (k - 1); the rest is as it was
 use mathlib.Core.List.{List, [], _∷_}
-use Prim.Native.Nat.{ℕ, zero, suc}
+use Prim.Native.Nat.{ℕ, zero, suc, _+_}
+use lib.ListN.{set}
 
 module _ {A : Type 0} where
   unfoldable pub tabFrom : ℕ → ℕ → (ℕ → A) → List A
@@ -11,6 +13,10 @@ module _ {A : Type 0} where
 
   unfoldable pub tab : ℕ → (ℕ → A) → List A
   tab n f = tabFrom 0 n f
+
+  unfoldable pub laid : (ℕ → A) → ℕ → ℕ → List A → List A
+  laid f t zero a = a
+  laid f t (suc n) a = set (laid f t n a) (t + n) (f n)
 
   unfoldable pub filled : (ℕ → A) → ℕ → List A → List A
   filled f zero l = l

@@ -1,8 +1,9 @@
-// What the layers above share in code: a refusal table's rule, an entry widened, a test of a whole slice.
+// What the layers above share in code: a refusal table's rule, an entry widened, a test of a whole slice, a part of one copied.
 ghost use mathlib.Core.Path.{_≡_};
-ghost use Prim.Native.Nat.{_<_, _≤_};
+ghost use Prim.Native.Nat.{_+_, _<_, _≤_};
 ghost use lib.ListN.{length, getD};
 ghost use Rattle.base.specs.Rules.{orWhen};
+ghost use Rattle.base.specs.Fill.{laid};
 ghost use Rattle.base.specs.Matrix.{allBelow};
 
 // One rule of a refusal table: a number that stands already stays, else `number` where its test holds.
@@ -37,4 +38,16 @@ pub fn all_below(s: &[u16], p: u16) -> bool
         i += 1;
     }
     over == 0
+}
+
+// Copies n entries of m, from `from` on, into a, from t on.
+pub fn copy(a: &mut [u16], t: usize, m: &[u16], from: usize, n: usize)
+    requires { ⌜ (t + n ≤ length (now a)) × (from + n ≤ length (now m)) ⌝ }
+    ensures { λ _. ⌜ now (a .exit) ≡ laid (λ j. getD (now (m .entry)) (from + j) 0) t n (now (a .entry)) ⌝ }
+{
+    let mut j = 0;
+    while j < n {
+        a[t + j] = m[from + j];
+        j += 1;
+    }
 }

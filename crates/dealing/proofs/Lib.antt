@@ -1,4 +1,3 @@
-pub mod Put
 pub mod Parts
 pub mod Deals
 pub mod Pairs

@@ -8,10 +8,10 @@ use native.Mathlib.Omega.{arith}
 use lib.Arith.{digits-div, digits-mod}
 use lib.ListN.{length, getD}
 use Rattle.base.specs.Sum.{sum}
-use Rattle.base.specs.Fill.{tab, filled}
+use Rattle.base.specs.Fill.{filled}
 use Rattle.base.specs.Matrix.{entry, flat}
 use Rattle.base.proofs.Fill.{tab-ext, getD-filled, flat-at}
-use Rattle.base.proofs.Matrix.{row-fits, entry-fits}
+use Rattle.base.proofs.Matrix.{entry-fits}
 use Rattle.field.specs.Fields.{isField}
 use Rattle.field.proofs.Fields.{five-elim, field-five}
 use Rattle.linear.specs.Dot.{dot, along}

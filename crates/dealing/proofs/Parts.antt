@@ -9,20 +9,18 @@ use borrow.Author.Tests.{lt-ltb, le-ltb}
 use lib.Dec.{ltb}
 use lib.ListN.{length, getD}
 use Rattle.base.specs.Choice.{pick}
-use Rattle.base.specs.Fill.{tab, filled}
+use Rattle.base.specs.Fill.{tab, filled, laid}
 use Rattle.base.specs.Matrix.{entry, flat}
-use Rattle.base.proofs.Fill.{getD-tab, tab-ext, getD-filled, flat-at}
+use Rattle.base.proofs.Fill.{getD-tab, tab-ext, getD-filled, flat-at, laid-filled, laid-whole}
 use Rattle.base.proofs.Matrix.{row-fits, entry-fits}
 use Rattle.linear.specs.Dot.{at, dot, along}
 use Rattle.linear.proofs.Dot.{dot-ext, dot-same}
 use Rattle.scheme.specs.Setup.{Setup, dim, row}
 use Rattle.scheme.specs.Dealing.{place, dealtEntry, dealt, partG, partH}
 use Rattle.scheme.proofs.Calls.{DealOk, limits-pos, below-vec}
-use Rattle.dealing.specs.Put.{put}
 use Rattle.dealing.specs.Parts.{entryG, entryH, sized}
 use Rattle.dealing.specs.Pairs.{Under}
 use Rattle.base.proofs.Fill.{filled-all}
-use Rattle.dealing.proofs.Put.{put-filled, put-all}
 use Rattle.base.proofs.Matrix.{place-at}
 
 -- F and its rows lie in the array
@@ -62,19 +60,19 @@ module _ (l e : ℕ) (secrets random : List ℕ) where
     abbrev F : ℕ → ℕ
     F = flat (l + e) (dealtEntry (sized l e) secrets random)
 
-    pub row-begun : (k : ℕ) → k < l → f ≡ filled F (k * (l + e)) x → put (along secrets k l) (k * (l + e)) l f ≡ filled F (k * (l + e) + l) x
+    pub row-begun : (k : ℕ) → k < l → f ≡ filled F (k * (l + e)) x → laid (along secrets k l) (k * (l + e)) l f ≡ filled F (k * (l + e) + l) x
     row-begun k h s =
-        put-filled _ F _ l x f s (λ b m. of-secrets k b h m ∙ flat-at (l + e) (dealtEntry (sized l e) secrets random) k b (omega arith))
+        laid-filled _ F _ l x f s (λ b m. of-secrets k b h m ∙ flat-at (l + e) (dealtEntry (sized l e) secrets random) k b (omega arith))
 
-    pub row-ended : (k : ℕ) → k < l → f ≡ filled F (k * (l + e) + l) x → put (along random (k * e) 1) (k * (l + e) + l) e f ≡ filled F ((k + 1) * (l + e)) x
+    pub row-ended : (k : ℕ) → k < l → f ≡ filled F (k * (l + e) + l) x → laid (along random (k * e) 1) (k * (l + e) + l) e f ≡ filled F ((k + 1) * (l + e)) x
     row-ended k h s =
-        put-filled _ F _ e x f s
+        laid-filled _ F _ e x f s
         (λ j m. of-random k j h ∙ flat-at (l + e) (dealtEntry (sized l e) secrets random) k (l + j) (omega arith) ∙ ap F (sym (add-assoc (k * (l + e)) l j)))
         ∙ ap (λ n. filled F n x) (omega arith)
 
-    pub rest-ended : f ≡ filled F (l * (l + e)) x → put (along random (l * e) 1) (l * (l + e)) (e * (l + e)) f ≡ filled F ((l + e) * (l + e)) x
+    pub rest-ended : f ≡ filled F (l * (l + e)) x → laid (along random (l * e) 1) (l * (l + e)) (e * (l + e)) f ≡ filled F ((l + e) * (l + e)) x
     rest-ended s =
-        put-filled _ F _ (e * (l + e)) x f s (λ t m. place′ t (place-at (l + e) e t m))
+        laid-filled _ F _ (e * (l + e)) x f s (λ t m. place′ t (place-at (l + e) e t m))
         ∙ ap (λ n. filled F n x) (omega arith)
       where
         place′ : (t : ℕ) → (0 < l + e) × (t / (l + e) < e) × (t % (l + e) < l + e) → along random (l * e) 1 t ≡ F (l * (l + e) + t)
@@ -123,13 +121,13 @@ module _
     unfolding entryH
     entry-h i k h = ap (λ n. n % S .p) (dot-same (dim S) _ _ _ _ (λ b m. same k b h m) (λ b m. refl))
 
-    pub deal-g : (i : ℕ) (g : List ℕ) → length g ≡ dim S → put (entryG (S .p) (dim S) (S .M) F i) 0 (dim S) g ≡ partG S (dealt S secrets random) i
+    pub deal-g : (i : ℕ) (g : List ℕ) → length g ≡ dim S → laid (entryG (S .p) (dim S) (S .M) F i) 0 (dim S) g ≡ partG S (dealt S secrets random) i
     unfolding partG
-    deal-g i g e = put-all _ _ (dim S) g e (entry-g i)
+    deal-g i g e = laid-whole _ _ (dim S) 0 g e (entry-g i)
 
-    pub deal-h : (i : ℕ) (h : List ℕ) → length h ≡ dim S → put (entryH (S .p) (dim S) (S .M) F i) 0 (dim S) h ≡ partH S (dealt S secrets random) i
+    pub deal-h : (i : ℕ) (h : List ℕ) → length h ≡ dim S → laid (entryH (S .p) (dim S) (S .M) F i) 0 (dim S) h ≡ partH S (dealt S secrets random) i
     unfolding partH
-    deal-h i h e = put-all _ _ (dim S) h e (entry-h i)
+    deal-h i h e = laid-whole _ _ (dim S) 0 h e (entry-h i)
 
     pub all-g : (gs : List ℕ) → length gs ≡ S .n * dim S
         → filled (flat (dim S) (entryG (S .p) (dim S) (S .M) F)) (S .n * dim S) gs ≡ tab (S .n * dim S) (flat (dim S) (λ i. at (partG S (dealt S secrets random) i)))

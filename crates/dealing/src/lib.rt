@@ -3,9 +3,9 @@
 ghost use mathlib.Core.Path.{_≡_};
 ghost use mathlib.Core.Bool.{true};
 ghost use Prim.Native.Nat.{ℕ, _+_, _-_, _*_, _%_, _<_, _≤_};
-ghost use lib.ListN.{length};
+ghost use lib.ListN.{length, getD};
 ghost use Rattle.base.specs.Rules.{refusal, refusalFrom};
-ghost use Rattle.base.specs.Fill.{filled};
+ghost use Rattle.base.specs.Fill.{filled, laid};
 ghost use Rattle.base.specs.Matrix.{flat};
 ghost use Rattle.field.specs.Fields.{isField};
 ghost use Rattle.linear.specs.Dot.{dot, along};
@@ -13,7 +13,6 @@ ghost use Rattle.scheme.specs.Setup.{setupOf};
 ghost use Rattle.scheme.specs.Answers.{paperWritten};
 ghost use Rattle.scheme.specs.Dealing.{dealtEntry};
 ghost use Rattle.scheme.specs.Calls.{dealInputs, dealElements, dealRules, dealCall, dealLeftG, dealLeftH, dealAllRules, dealAllCall, dealAllLeftG, dealAllLeftH};
-ghost use Rattle.dealing.specs.Put.{put};
 ghost use Rattle.dealing.specs.Parts.{entryG, entryH, sized, DealtRoom, PartRoom};
 ghost use Rattle.dealing.specs.Pairs.{UpTo, Under, pairOf, lowOf, highOf, PairRoom};
 use field::Field;
@@ -25,7 +24,7 @@ use scheme::Written;
 fn copy(from: &[u16], start: usize, step: usize, count: usize, out: &mut [u16], at: usize)
     requires { ⌜ at + count ≤ length (now out) ⌝ }
     requires { ⌜ ((k : ℕ) → k < count → start + k * step < length (now from)) ⌝ }
-    ensures { λ _. ⌜ now (out .exit) ≡ put (along (now (from .entry)) start step) at count (now (out .entry)) ⌝ }
+    ensures { λ _. ⌜ now (out .exit) ≡ laid (along (now (from .entry)) start step) at count (now (out .entry)) ⌝ }
 {
     let mut k = 0;
     while k < count {
@@ -56,7 +55,7 @@ fn fill_dealt(s: Params, secrets: &[u16], random: &[u16], f: &mut [u16])
 // Holder i's g = m_i F, into `out` from place `at` on.
 fn write_g(p: u16, d: usize, matrix: &[u16], f: &[u16], i: usize, out: &mut [u16], at: usize)
     requires { ⌜ PartRoom p d (now matrix) (now f) i at (now out) ⌝ }
-    ensures { λ _. ⌜ now (out .exit) ≡ put (entryG p d (now (matrix .entry)) (now (f .entry)) i) at d (now (out .entry)) ⌝ }
+    ensures { λ _. ⌜ now (out .exit) ≡ laid (entryG p d (now (matrix .entry)) (now (f .entry)) i) at d (now (out .entry)) ⌝ }
 {
     let mut b = 0;
     while b < d {
@@ -68,7 +67,7 @@ fn write_g(p: u16, d: usize, matrix: &[u16], f: &[u16], i: usize, out: &mut [u16
 // Holder i's h = F m_i, into `out` from place `at` on.
 fn write_h(p: u16, d: usize, matrix: &[u16], f: &[u16], i: usize, out: &mut [u16], at: usize)
     requires { ⌜ PartRoom p d (now matrix) (now f) i at (now out) ⌝ }
-    ensures { λ _. ⌜ now (out .exit) ≡ put (entryH p d (now (matrix .entry)) (now (f .entry)) i) at d (now (out .entry)) ⌝ }
+    ensures { λ _. ⌜ now (out .exit) ≡ laid (entryH p d (now (matrix .entry)) (now (f .entry)) i) at d (now (out .entry)) ⌝ }
 {
     let mut k = 0;
     while k < d {
@@ -104,7 +103,7 @@ fn write_parts(
 // Row b of the pairs: entry k of column b of F, and 2^32 times entry k of its row b.
 fn pair_row(d: usize, f: &[u16], b: usize, q: &mut [u64])
     requires { ⌜ (d ≤ 16) × (b < d) × (length (now f) ≡ 256) × (length (now q) ≡ 256) ⌝ }
-    ensures { λ _. ⌜ now (q .exit) ≡ put (pairOf d (now (f .entry)) b) (b * d) d (now (q .entry)) ⌝ }
+    ensures { λ _. ⌜ now (q .exit) ≡ laid (pairOf d (now (f .entry)) b) (b * d) d (now (q .entry)) ⌝ }
 {
     let at = b * d;
     let mut k = 0;
@@ -128,7 +127,16 @@ fn pair_rows(d: usize, f: &[u16], q: &mut [u64])
     }
 }
 
-// The product of the row of the matrix that starts at `row` and the row of pairs that starts at `pair`.
+// The product of an entry of the matrix and a pair.
+fn term(matrix: &[u16], i: usize, q: &[u64], j: usize) -> u64
+    requires { ⌜ (i < length (now matrix)) × (j < length (now q)) × (getD (now matrix) i 0 ≤ 256) × (getD (now q) j 0 ≤ 1099511628032) ⌝ }
+    ensures { λ r. ⌜ (r ≡ getD (now (matrix .entry)) i 0 * getD (now (q .entry)) j 0) × (r ≤ 281474976776192) ⌝ }
+{
+    base::at(matrix, i) * q[j]
+}
+
+// The product of the row of the matrix that starts at `row` and the row of pairs that starts at `pair`. Two terms at a time: a vector has no product of
+// 64 bits, and one by one the compiler would make one of parts.
 fn pair_sum(d: usize, matrix: &[u16], row: usize, q: &[u64], pair: usize) -> u64
     requires { ⌜ (d ≤ 16) × (row + d ≤ length (now matrix)) × (pair + d ≤ length (now q)) ⌝ }
     requires { ⌜ UpTo 256 (row + d) (now matrix) ⌝ }
@@ -137,11 +145,14 @@ fn pair_sum(d: usize, matrix: &[u16], row: usize, q: &[u64], pair: usize) -> u64
 {
     let mut sum: u64 = 0;
     let mut k = 0;
-    while k < d {
-        let x = base::at(matrix, row + k);
-        let y = q[pair + k];
-        sum += x * y;
-        k += 1;
+    while k + 2 <= d {
+        let x = term(matrix, row + k, q, pair + k);
+        let y = term(matrix, row + k + 1, q, pair + k + 1);
+        sum += x + y;
+        k += 2;
+    }
+    if k < d {
+        sum += term(matrix, row + k, q, pair + k);
     }
     sum
 }
@@ -149,8 +160,8 @@ fn pair_sum(d: usize, matrix: &[u16], row: usize, q: &[u64], pair: usize) -> u64
 // Holder i's g and h from the pairs, into its places of gs and hs.
 fn write_pair(p: u16, d: usize, matrix: &[u16], q: &[u64], i: usize, gs: &mut [u16], hs: &mut [u16])
     requires { ⌜ PairRoom p d (now matrix) (now q) i (now gs) (now hs) ⌝ }
-    ensures { λ _. ⌜ now (gs .exit) ≡ put (lowOf p d (now (matrix .entry)) (now (q .entry)) i) (i * d) d (now (gs .entry)) ⌝ }
-    ensures { λ _. ⌜ now (hs .exit) ≡ put (highOf p d (now (matrix .entry)) (now (q .entry)) i) (i * d) d (now (hs .entry)) ⌝ }
+    ensures { λ _. ⌜ now (gs .exit) ≡ laid (lowOf p d (now (matrix .entry)) (now (q .entry)) i) (i * d) d (now (gs .entry)) ⌝ }
+    ensures { λ _. ⌜ now (hs .exit) ≡ laid (highOf p d (now (matrix .entry)) (now (q .entry)) i) (i * d) d (now (hs .entry)) ⌝ }
 {
     let at = i * d;
     let mut b = 0;

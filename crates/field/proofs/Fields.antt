@@ -1,18 +1,17 @@
 -- The five are primes, and what the constructor's answer says.
 use mathlib.Core.Path.{_≡_, refl, ap, sym, _∙_}
 use mathlib.Core.Bool.{Bool, true, false, not, false≢true}
-use mathlib.Core.List.{List, [], _∷_}
+use mathlib.Core.List.{[], _∷_}
 use mathlib.Core.Logic.{_⊎_, inl, inr, ⊎-elim}
-use Prim.Native.Nat.{ℕ, _<_, _≤_}
+use Prim.Native.Nat.{ℕ}
 use native.Mathlib.Omega.{arith}
 use lib.Dec.{eqb}
-use borrow.Author.Tests.{eqb-true, eqb-false, ne-eqb}
+use borrow.Author.Tests.{eqb-true, ne-eqb}
 use Rattle.base.specs.Choice.{pick}
 use Rattle.base.specs.Rules.{Answer, refused, given}
 use Rattle.field.specs.Prime.{Prime}
 use Rattle.field.specs.Fields.{isField, fieldAnswer, paper}
-use Rattle.field.specs.declared.Chosen.{Chosen}
-use Rattle.field.specs.declared.Chosen.the-variants.{Of, NoField}
+use Rattle.field.specs.declared.Chosen.the-variants.{NoField}
 use Rattle.field.proofs.Prime.{prime-2, prime-7, prime-251, prime-257, prime-65521}
 
 -- one of the five, as a proposition

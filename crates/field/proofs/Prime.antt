@@ -1,13 +1,13 @@
 -- Facts shared by the fields, for every prime p: inverses exist and are unique, no product of two nonzero residues is 0; and the five primes,
 -- by trial division. An inverse is worked out by a -> p % a, which ends at 1 because p is prime.
 use mathlib.Core.Path.{_≡_, refl, sym, ap, _∙_, _≡⟨_⟩_, _∎}
-use mathlib.Core.Logic.{_≢_, _⊎_, inl, inr, ⊎-elim}
+use mathlib.Core.Logic.{_≢_}
 use mathlib.Core.Bool.{Bool, true, false}
 use Prim.Native.Nat.{ℕ, zero, suc, _+_, _-_, _*_, _/_, _%_, _≤_, _<_}
 use native.Mathlib.Omega.{arith}
 use native.Mathlib.Nat.{mod-add-div', mod-lt, mod-eq-of-lt, mul-mod-right, mul-le-mul, zero-mod, one-mul, mul-comm, mul-assoc, mul-sub, suc-mul, div-add-mod', add-mul-mod-self-right}
 use lib.Dec.{eqb, leb, ltb, T, lit<}
-use borrow.Author.Tests.{eqb-true, eqb-false, eq-eqb, leb-true, leb-false, lt-ltb, le-ltb}
+use borrow.Author.Tests.{eqb-true, eqb-false, leb-true, leb-false, lt-ltb, le-ltb}
 use Rattle.base.specs.Choice.{pick}
 use Rattle.base.specs.Search.{first, First, found, missing}
 use Rattle.base.proofs.Search.{first-is}

@@ -1,14 +1,14 @@
 -- The rule of the table of inverses modulo 257, tested once over the whole table: entry × index = 1 modulo 257 for a nonzero index.
-use mathlib.Core.Path.{_≡_, refl, _∙_, ap}
-use mathlib.Core.Bool.{Bool, true, false, _&&_}
+use mathlib.Core.Path.{refl, _∙_, ap}
+use mathlib.Core.Bool.{Bool, _&&_}
 use mathlib.Core.List.{List, [], _∷_}
 use Prim.Native.Nat.{ℕ, zero, suc, _*_, _%_, _<_}
 use native.Mathlib.Nat.{mul-comm}
 use native.Mathlib.Omega.{arith}
 use lib.Dec.{T, eqb, ltb, eqb→eq, ltb→lt}
-use lib.ListN.{length, getD}
+use lib.ListN.{getD}
 use Rattle.base.proofs.Choice.{T-left, T-right}
-use Rattle.base.proofs.Table.{passes, rule-at}
+use Rattle.base.proofs.Table.{rule-at}
 use Rattle.field.specs.Prime.{Inverse}
 use Rattle.field.proofs.Prime.{prime-257, inverse-by, inverse-of-zero}
 

@@ -13,7 +13,7 @@ use borrow.Author.Tests.{lt-ltb, le-ltb}
 use Rattle.base.specs.Choice.{pick}
 use Rattle.base.specs.Rules.{Answer, refusal}
 use Rattle.base.specs.Search.{Vec}
-use Rattle.base.specs.Fill.{tab, filled}
+use Rattle.base.specs.Fill.{tab, filled, laid}
 use Rattle.base.specs.Matrix.{entry, flat, Below}
 use Rattle.base.specs.Sum.{unit}
 use Rattle.base.proofs.Choice.{either}
@@ -33,7 +33,7 @@ use Rattle.scheme.specs.Calls.{judgeSetRules, JudgeSetLeft, of-row, of-vector, 
 use Rattle.scheme.proofs.Calls.{SetOk}
 use Rattle.scheme.proofs.Sets.{rows, unit-mod, is-row, is-sweep, row-there, sweep-there}
 use Rattle.scheme.proofs.Certificates.{no-row, no-sweep, kind-row, kind-vector, kind-neither}
-use Rattle.sets.specs.Contracts.{membersOf, Walked, Fresh, laid}
+use Rattle.sets.specs.Contracts.{membersOf, Walked, Fresh}
 use Rattle.sets.proofs.Load.{row-part, row-last, loaded-ready, reduced-loaded}
 use Rattle.sets.proofs.Members.{prime-of, wide, few, narrow, entry-small, counted, listed}
 use Rattle.judging_sets.specs.Systems.{across, aside, negated}

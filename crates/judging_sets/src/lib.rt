@@ -5,7 +5,7 @@ ghost use Prim.Native.Nat.{_+_, _*_, _<_, _≤_};
 ghost use lib.ListN.{length, getD, replicate};
 ghost use Rattle.base.specs.Rules.{refusal};
 ghost use Rattle.base.specs.Sum.{unit};
-ghost use Rattle.base.specs.Fill.{tab};
+ghost use Rattle.base.specs.Fill.{tab, laid};
 ghost use Rattle.base.specs.Matrix.{entry, flat, Below};
 ghost use Rattle.linear.specs.Contracts.{buffers, Fits};
 ghost use Rattle.scheme.specs.Setup.{setupOf};
@@ -13,7 +13,7 @@ ghost use Rattle.scheme.specs.Answers.{paperSetJudged};
 ghost use Rattle.scheme.specs.Sets.{holds, members};
 ghost use Rattle.scheme.specs.Calls.{judgeSetRules, judgeSetCall};
 ghost use Rattle.scheme.proofs.Calls.{SetOk};
-ghost use Rattle.sets.specs.Contracts.{Lie, Fresh, laid};
+ghost use Rattle.sets.specs.Contracts.{Lie, Fresh};
 ghost use Rattle.judging_sets.specs.Systems.{across, aside, negated};
 ghost use Rattle.judging_sets.specs.Contracts.{AcrossReduced, AsideReduced, RowSought, VectorSought, SetBuffer};
 use scheme::Params;
@@ -68,8 +68,8 @@ fn load_aside(matrix: &[u16], l: usize, e: usize, members: &[u16], a: &mut [u16]
     while i < members.len() {
         let from = sets::row_start(members, i, d);
         let t = i * d;
-        sets::copy(a, t, matrix, from + l, e);
-        sets::copy(a, t + e, matrix, from, l);
+        base::copy(a, t, matrix, from + l, e);
+        base::copy(a, t + e, matrix, from, l);
         i += 1;
     }
 }

@@ -3,12 +3,13 @@ use mathlib.Core.Path.{_≡_, refl}
 use mathlib.Core.List.{List, [], _∷_}
 use Prim.Native.Nat.{ℕ}
 use lib.ListN.{getD}
-use Rattle.base.specs.Fill.{tab, tabFrom}
+use Rattle.base.specs.Fill.{tab, tabFrom, laid}
 use Rattle.base.specs.Matrix.{flat}
 use Rattle.base.specs.Search.{first, firstFrom}
 use Rattle.base.specs.Sum.{bit}
 use Rattle.field.specs.Prime.{inverseOf}
-use Rattle.linear.specs.Elimination.{State, scaled, clear, usable, pivotOf, useRow, column, gauss, start, reduced, pivotRow, shown, unsolved, elsewhere, alone, fixes, subEntry, subTo, scaleEntry, scaleTo, clearRow, clearTo, Flat, flatPivot, flatUse, flatColumn, flatReduce, flatShown, flatUnsolved, flatFixes}
+use Rattle.rows.specs.Rows.{addRow, scaleRow}
+use Rattle.linear.specs.Elimination.{State, scaled, clear, usable, pivotOf, useRow, column, gauss, start, reduced, pivotRow, shown, unsolved, elsewhere, alone, fixes, clearRow, clearTo, Flat, flatPivot, flatUse, flatColumn, flatReduce, flatShown, flatUnsolved, flatFixes}
 use Rattle.linear.specs.Contracts.{buffers}
 
 abbrev rows : List (List ℕ) → ℕ → ℕ → ℕ
@@ -52,5 +53,5 @@ table :
     ∷ (1 ∷ [])
     ∷ (1 ∷ 0 ∷ [])
     ∷ [])
-unfolding tab tabFrom first firstFrom bit inverseOf scaled clear usable pivotOf useRow column gauss start reduced pivotRow shown elsewhere alone fixes subEntry subTo scaleEntry scaleTo clearRow clearTo flatPivot flatUse flatColumn flatReduce flatShown flatFixes
+unfolding tab tabFrom laid first firstFrom bit inverseOf scaled clear usable pivotOf useRow column gauss start reduced pivotRow shown elsewhere alone fixes addRow scaleRow clearRow clearTo flatPivot flatUse flatColumn flatReduce flatShown flatFixes
 table = refl

@@ -7,7 +7,7 @@ use mathlib.Core.List.{List}
 use Prim.Native.Nat.{ℕ, zero, suc, _+_, _-_, _*_, _%_, _≤_, _<_}
 use native.Mathlib.Numerals.{add-one}
 use native.Mathlib.Omega.{arith}
-use native.Mathlib.Nat.{mod-lt, mod-eq-of-lt, sub-zero, mul-le-mul}
+use native.Mathlib.Nat.{mod-eq-of-lt, sub-zero}
 use lib.Dec.{eqb, leb, ltb}
 use lib.ListN.{length, getD, set, length-set}
 use lib.Seq.{getD-set-same, getD-set-other}
@@ -16,90 +16,14 @@ use Rattle.base.specs.Choice.{pick}
 use Rattle.base.specs.Matrix.{entry, Below}
 use Rattle.base.proofs.Choice.{either}
 use Rattle.base.proofs.Search.{first-ext}
-use Rattle.base.proofs.Matrix.{row-fits, rows-apart, below-set}
+use Rattle.base.proofs.Fill.{length-laid, laid-out, laid-in}
+use Rattle.base.proofs.Matrix.{row-fits, rows-apart}
 use Rattle.field.specs.Prime.{Prime, inverseOf}
 use Rattle.field.proofs.Congruence.{cong-by}
+use Rattle.rows.specs.Rows.{addEntry, addRow, scaleRow}
+use Rattle.rows.proofs.Rows.{below-add, below-scale}
 use Rattle.linear.specs.Dot.{at}
-use Rattle.linear.specs.Elimination.{State, scaled, clear, usable, pivotOf, useRow, column, gauss, start, reduced, pivotRow, shown, unsolved, elsewhere, alone, fixes, subEntry, subTo, scaleEntry, scaleTo, clearRow, clearTo, Flat, view, flatPivot, flatUse, flatColumn, flatReduce, flatShown, flatUnsolved, flatFixes, Shows}
-
--- a place outside the n entries from t on
-abbrev Outside : (t n k : ℕ) → Type 0
-Outside t n k = (k < t) ⊎ (t + n ≤ k)
-
--- A ROW LESS A MULTIPLE OF ANOTHER
-module _ (p f t q : ℕ) where
-  pub sub-step : (n : ℕ) (a : List ℕ)
-      → subTo p f t q (n + 1) a
-      ≡ set (subTo p f t q n a) (t + n) (subEntry p f (getD (subTo p f t q n a) (t + n) 0) (getD (subTo p f t q n a) (q + n) 0))
-  unfolding subTo
-  sub-step n a = rw add-one refl
-
-  length-sub : (n : ℕ) (a : List ℕ) → length (subTo p f t q n a) ≡ length a
-  unfolding subTo
-  length-sub zero a = refl
-  length-sub (suc n) a = simp (length-set, length-sub n a)
-
-  pub below-sub : (n : ℕ) (a : List ℕ) → 0 < p → Below p a → Below p (subTo p f t q n a)
-  unfolding subTo subEntry
-  below-sub zero a hp all = all
-  below-sub (suc n) a hp all = below-set p (subTo p f t q n a) (t + n) _ (mod-lt _ hp) (below-sub n a hp all)
-
-  sub-out : (n : ℕ) (a : List ℕ) (k : ℕ) → Outside t n k → getD (subTo p f t q n a) k 0 ≡ getD a k 0
-  unfolding subTo
-  sub-out zero a k h = refl
-  sub-out (suc n) a k h =
-      getD-set-other (subTo p f t q n a) (t + n) k _ 0 (⊎-elim (λ l. omega arith) (λ l. omega arith) h)
-      ∙ sub-out n a k (⊎-elim (λ l. inl l) (λ l. inr (omega arith)) h)
-
-  sub-in : (n : ℕ) (a : List ℕ) → t + n ≤ length a → (q + n ≤ t) ⊎ (t + n ≤ q) → (c : ℕ) → c < n
-      → getD (subTo p f t q n a) (t + c) 0 ≡ subEntry p f (getD a (t + c) 0) (getD a (q + c) 0)
-  unfolding subTo
-  sub-in zero a fits apart c h = absurd (omega arith)
-  sub-in (suc n) a fits apart c h =
-      either c n (getD (set b (t + n) (subEntry p f (getD b (t + n) 0) (getD b (q + n) 0))) (t + c) 0 ≡ subEntry p f (getD a (t + c) 0) (getD a (q + c) 0))
-      (λ e. rw e
-      (getD-set-same b (t + n) _ 0 (omega (arith, length-sub n a))
-      ∙ rw (sub-out n a (t + n) (inr (omega arith)), sub-out n a (q + n) (⊎-elim (λ l. inl (omega arith)) (λ l. inr (omega arith)) apart))))
-      (λ e. getD-set-other b (t + n) (t + c) _ 0 (omega (arith, e))
-      ∙ sub-in n a (omega arith) (⊎-elim (λ l. inl (omega arith)) (λ l. inr (omega arith)) apart) c (omega (arith, e)))
-    where
-      b : List ℕ
-      b = subTo p f t q n a
-
--- A ROW SCALED
-module _ (p k t : ℕ) where
-  pub scale-step : (n : ℕ) (a : List ℕ)
-      → scaleTo p k t (n + 1) a ≡ set (scaleTo p k t n a) (t + n) (scaleEntry p k (getD (scaleTo p k t n a) (t + n) 0))
-  unfolding scaleTo
-  scale-step n a = rw add-one refl
-
-  length-scale : (n : ℕ) (a : List ℕ) → length (scaleTo p k t n a) ≡ length a
-  unfolding scaleTo
-  length-scale zero a = refl
-  length-scale (suc n) a = simp (length-set, length-scale n a)
-
-  pub below-scale : (n : ℕ) (a : List ℕ) → 0 < p → Below p a → Below p (scaleTo p k t n a)
-  unfolding scaleTo scaleEntry
-  below-scale zero a hp all = all
-  below-scale (suc n) a hp all = below-set p (scaleTo p k t n a) (t + n) _ (mod-lt _ hp) (below-scale n a hp all)
-
-  scale-out : (n : ℕ) (a : List ℕ) (i : ℕ) → Outside t n i → getD (scaleTo p k t n a) i 0 ≡ getD a i 0
-  unfolding scaleTo
-  scale-out zero a i h = refl
-  scale-out (suc n) a i h =
-      getD-set-other (scaleTo p k t n a) (t + n) i _ 0 (⊎-elim (λ l. omega arith) (λ l. omega arith) h)
-      ∙ scale-out n a i (⊎-elim (λ l. inl l) (λ l. inr (omega arith)) h)
-
-  scale-in : (n : ℕ) (a : List ℕ) → t + n ≤ length a → (c : ℕ) → c < n → getD (scaleTo p k t n a) (t + c) 0 ≡ scaleEntry p k (getD a (t + c) 0)
-  unfolding scaleTo
-  scale-in zero a fits c h = absurd (omega arith)
-  scale-in (suc n) a fits c h =
-      either c n (getD (set b (t + n) (scaleEntry p k (getD b (t + n) 0))) (t + c) 0 ≡ scaleEntry p k (getD a (t + c) 0))
-      (λ e. rw e (getD-set-same b (t + n) _ 0 (omega (arith, length-scale n a)) ∙ ap (scaleEntry p k) (scale-out n a (t + n) (inr (omega arith)))))
-      (λ e. getD-set-other b (t + n) (t + c) _ 0 (omega (arith, e)) ∙ scale-in n a (omega arith) c (omega (arith, e)))
-    where
-      b : List ℕ
-      b = scaleTo p k t n a
+use Rattle.linear.specs.Elimination.{State, scaled, clear, usable, pivotOf, useRow, column, gauss, start, reduced, pivotRow, shown, unsolved, elsewhere, alone, fixes, clearRow, clearTo, Flat, view, flatPivot, flatUse, flatColumn, flatReduce, flatShown, flatUnsolved, flatFixes, Shows}
 
 -- A COLUMN CLEARED
 module _ (p W k c : ℕ) where
@@ -112,17 +36,18 @@ module _ (p W k c : ℕ) where
   clear-step n a = rw add-one refl
 
   -- the row is passed over, or a multiple of the pivot row is taken from it
-  clear-row-by : (Z : List ℕ → Type 0) (r : ℕ) (a : List ℕ) → Z a → Z (subTo p (entry W a r c) (r * W) (k * W) W a) → Z (clearRow p W k c r a)
+  clear-row-by : (Z : List ℕ → Type 0) (r : ℕ) (a : List ℕ) → Z a → Z (addRow p (p - entry W a r c) (r * W) (k * W) W a) → Z (clearRow p W k c r a)
   unfolding clearRow
   clear-row-by Z r a x y = go (eqb r k) (eqb (entry W a r c) 0)
     where
-      go : (s t : Bool) → Z (pick s a (pick t a (subTo p (entry W a r c) (r * W) (k * W) W a)))
+      go : (s t : Bool) → Z (pick s a (pick t a (addRow p (p - entry W a r c) (r * W) (k * W) W a)))
       go true t = x
       go false true = x
       go false false = y
 
   length-clearRow : (r : ℕ) (a : List ℕ) → length (clearRow p W k c r a) ≡ length a
-  length-clearRow r a = clear-row-by (λ b. length b ≡ length a) r a refl (length-sub p (entry W a r c) (r * W) (k * W) W a)
+  unfolding addRow
+  length-clearRow r a = clear-row-by (λ b. length b ≡ length a) r a refl (length-laid _ (r * W) W a)
 
   length-clear : (n : ℕ) (a : List ℕ) → length (clearTo p W k c n a) ≡ length a
   unfolding clearTo
@@ -130,7 +55,7 @@ module _ (p W k c : ℕ) where
   length-clear (suc n) a = length-clearRow n (clearTo p W k c n a) ∙ length-clear n a
 
   pub below-row : (r : ℕ) (a : List ℕ) → 0 < p → Below p a → Below p (clearRow p W k c r a)
-  below-row r a hp all = clear-row-by (Below p) r a all (below-sub p (entry W a r c) (r * W) (k * W) W a hp all)
+  below-row r a hp all = clear-row-by (Below p) r a all (below-add p _ (r * W) (k * W) W a hp all)
 
   pub below-clear : (n : ℕ) (a : List ℕ) → 0 < p → Below p a → Below p (clearTo p W k c n a)
   unfolding clearTo
@@ -138,31 +63,28 @@ module _ (p W k c : ℕ) where
   below-clear (suc n) a hp all = below-row n (clearTo p W k c n a) hp (below-clear n a hp all)
 
   row-other : (r : ℕ) (a : List ℕ) (i j : ℕ) → i ≢ r → j < W → entry W (clearRow p W k c r a) i j ≡ entry W a i j
+  unfolding addRow
   row-other r a i j h l =
       clear-row-by (λ b. entry W b i j ≡ entry W a i j) r a refl
-      (sub-out p (entry W a r c) (r * W) (k * W) W a (i * W + j) (⊎-elim (λ m. inl (omega arith)) (λ m. inr (omega arith)) (rows-apart W i r h)))
+      (laid-out _ (r * W) W a (i * W + j) 0 (⊎-elim (λ m. inl (omega arith)) (λ m. inr (omega arith)) (rows-apart W i r h)))
 
   row-pivot : (a : List ℕ) → clearRow p W k c k a ≡ a
   unfolding clearRow
   row-pivot a = rw (eq-eqb k k refl)
 
-  -- nothing is to be done for the pivot row
-  pub clear-past : (a : List ℕ) → clearTo p W k c k a ≡ clearTo p W k c (k + 1) a
-  clear-past a = sym (clear-step k a ∙ row-pivot (clearTo p W k c k a))
-
   row-same : (R r : ℕ) (a : List ℕ) (j : ℕ) → length a ≡ R * W → Below p a → r < R → r ≢ k → j < W
-      → entry W (clearRow p W k c r a) r j ≡ subEntry p (entry W a r c) (entry W a r j) (entry W a k j)
-  unfolding clearRow
+      → entry W (clearRow p W k c r a) r j ≡ addEntry p (p - entry W a r c) (entry W a r j) (entry W a k j)
+  unfolding clearRow addRow
   row-same R r a j len low l h m = go (eqb r k) refl (eqb (entry W a r c) 0) refl
     where
       go : (x : Bool) → eqb r k ≡ x → (y : Bool) → eqb (entry W a r c) 0 ≡ y
-          → entry W (pick x a (pick y a (subTo p (entry W a r c) (r * W) (k * W) W a))) r j ≡ subEntry p (entry W a r c) (entry W a r j) (entry W a k j)
+          → entry W (pick x a (pick y a (addRow p (p - entry W a r c) (r * W) (k * W) W a))) r j ≡ addEntry p (p - entry W a r c) (entry W a r j) (entry W a k j)
       go true e y f = absurd (h (eqb-true r k e))
       go false e false f =
-          sub-in p (entry W a r c) (r * W) (k * W) W a (omega (arith, row-fits R W r l)) (rows-apart W k r (λ e. h (sym e))) j m
+          laid-in _ (r * W) W a j 0 (omega (arith, row-fits R W r l)) m
       go false e true f =
           rw (eqb-true (entry W a r c) 0 f)
-          (unfold subEntry in sym (rw (sub-zero p) (cong-by p (entry W a k j) _ (entry W a r j) (omega arith) ∙ mod-eq-of-lt (low (r * W + j)))))
+          (sym (rw (sub-zero p) (cong-by p (entry W a k j) _ (entry W a r j) (omega arith) ∙ mod-eq-of-lt (low (r * W + j)))))
 
   -- rows from n on, and the pivot row, are as they were
   clear-late : (n : ℕ) (a : List ℕ) (i j : ℕ) → n ≤ i → j < W → entry W (clearTo p W k c n a) i j ≡ entry W a i j
@@ -180,15 +102,15 @@ module _ (p W k c : ℕ) where
       (λ e. row-other n (clearTo p W k c n a) k j e l ∙ clear-pivot n a j l)
 
   clear-same : (R n : ℕ) (a : List ℕ) (i j : ℕ) → 0 < p → length a ≡ R * W → Below p a → n ≤ R → i < n → i ≢ k → j < W → c < W
-      → entry W (clearTo p W k c n a) i j ≡ subEntry p (entry W a i c) (entry W a i j) (entry W a k j)
+      → entry W (clearTo p W k c n a) i j ≡ addEntry p (p - entry W a i c) (entry W a i j) (entry W a k j)
   unfolding clearTo
   clear-same R zero a i j pos len low h l ne m o = absurd (omega arith)
   clear-same R (suc n) a i j pos len low h l ne m o =
-      either i n (entry W (clearRow p W k c n b) i j ≡ subEntry p (entry W a i c) (entry W a i j) (entry W a k j))
-      (λ e. subst (λ z. entry W (clearRow p W k c z b) i j ≡ subEntry p (entry W a i c) (entry W a i j) (entry W a k j)) e
+      either i n (entry W (clearRow p W k c n b) i j ≡ addEntry p (p - entry W a i c) (entry W a i j) (entry W a k j))
+      (λ e. subst (λ z. entry W (clearRow p W k c z b) i j ≡ addEntry p (p - entry W a i c) (entry W a i j) (entry W a k j)) e
       (row-same R i b j (length-clear n a ∙ len) (below-clear n a pos low) (omega arith) ne m
-      ∙ ap₂ (λ u v. subEntry p u v (entry W b k j)) (clear-late n a i c (omega arith) o) (clear-late n a i j (omega arith) m)
-      ∙ ap (subEntry p (entry W a i c) (entry W a i j)) (clear-pivot n a j m)))
+      ∙ ap₂ (λ u v. addEntry p (p - u) v (entry W b k j)) (clear-late n a i c (omega arith) o) (clear-late n a i j (omega arith) m)
+      ∙ ap (addEntry p (p - entry W a i c) (entry W a i j)) (clear-pivot n a j m)))
       (λ e. row-other n b i j e m ∙ clear-same R n a i j pos len low (omega arith) (omega (arith, e)) ne m o)
     where
       b : List ℕ
@@ -258,28 +180,28 @@ module _ (p : ℕ) (P : Prime p) (R W : ℕ) where
   module _ (s : Flat) (t : State) (S : Shows p R W s t) (c k : ℕ) (l : c < W) (m : k < R) where
     -- the buffer with the pivot row scaled
     unfoldable up : List ℕ
-    up = scaleTo p (inverseOf p (entry W (s .mat) k c)) (k * W) W (s .mat)
+    up = scaleRow p (inverseOf p (entry W (s .mat) k c)) (k * W) W (s .mat)
 
     up-size : length up ≡ R * W
-    unfolding up
-    up-size = length-scale p _ (k * W) W (s .mat) ∙ S .size
+    unfolding up scaleRow
+    up-size = length-laid _ (k * W) W (s .mat) ∙ S .size
 
     up-below : Below p up
     unfolding up
     up-below = below-scale p _ (k * W) W (s .mat) pos (S .below)
 
     up-here : (j : ℕ) → j < W → entry W up k j ≡ (inverseOf p (t .mat k c) * t .mat k j) % p
-    unfolding up scaleEntry
+    unfolding up scaleRow
     up-here j o =
-        scale-in p _ (k * W) W (s .mat) (omega (arith, S .size, row-fits R W k m)) j o ∙ rw (S .entries k c m l, S .entries k j m o) refl
+        laid-in _ (k * W) W (s .mat) j 0 (omega (arith, S .size, row-fits R W k m)) o ∙ rw (S .entries k c m l, S .entries k j m o) refl
 
     up-there : (i j : ℕ) → i ≢ k → i < R → j < W → entry W up i j ≡ t .mat i j
-    unfolding up
+    unfolding up scaleRow
     up-there i j h n o =
-        scale-out p _ (k * W) W (s .mat) (i * W + j) (⊎-elim (λ q. inl (omega arith)) (λ q. inr (omega arith)) (rows-apart W i k h)) ∙ S .entries i j n o
+        laid-out _ (k * W) W (s .mat) (i * W + j) 0 (⊎-elim (λ q. inl (omega arith)) (λ q. inr (omega arith)) (rows-apart W i k h)) ∙ S .entries i j n o
 
     use-shows : Shows p R W (flatUse p R W k c s) (useRow p k c t)
-    unfolding flatUse useRow up subEntry
+    unfolding flatUse useRow up
     use-shows = record {
       size = length-clear p W k c R up ∙ up-size;
       marks = length-set (s .used) k (suc c) ∙ S .marks;
@@ -341,11 +263,7 @@ module _ (p R W : ℕ) where
   below-reduce zero s pos all = all
   below-reduce (suc c) s pos all = below-column c (flatReduce p R W c s) pos (below-reduce c s pos all)
 
-  pub used-is : (r c : ℕ) (a u b m : List ℕ) (k w : ℕ) → k ≡ inverseOf p (entry W a r c) → b ≡ scaleTo p k (r * W) W a → m ≡ clearTo p W r c R b
+  pub used-is : (r c : ℕ) (a u b m : List ℕ) (k w : ℕ) → k ≡ inverseOf p (entry W a r c) → b ≡ scaleRow p k (r * W) W a → m ≡ clearTo p W r c R b
       → w ≡ c + 1 → _≡_ {A = Flat} (record { mat = m; used = set u r w }) (flatUse p R W r c (record { mat = a; used = u }))
   unfolding flatUse
   used-is r c a u b m k w ek eb em ew = rw (em, eb, ek, ew, add-one c)
-
--- a product of two entries of 16 bits
-pub prod-le : (x y : ℕ) → x ≤ 65535 → y ≤ 65535 → x * y ≤ 4294836225
-prod-le x y hx hy = mul-le-mul hx hy

@@ -2,7 +2,6 @@ pub mod Dot
 pub mod Elimination
 pub mod Reduced
 pub mod Flat
-pub mod Narrow
 mod Examples
 pub mod Polynomial
 pub mod Interpolation

@@ -2,9 +2,8 @@
 -- buffers: the two lent buffers, the matrix and the marks of its rows, as one
 -- Fits: the buffers hold R rows of W entries, at most 64, and R marks
 -- Ready: besides, p is a prime and every entry is below it
--- Reciprocal: r is 65536 h / p rounded down, for p up to 257
--- RowCleared, RowsCleared, ColumnCleared, RowUsed, ColumnPassed, Reduction: what clear_row, clear_rows, clear_column, use_row, pass_column and reduce leave
-use Prim.Native.Nat.{ℕ, _*_, _/_, _≤_, _<_}
+-- RowCleared, ColumnCleared, RowUsed, ColumnPassed, Reduction: what clear_row, clear_column, use_row, pass_column and reduce leave
+use Prim.Native.Nat.{ℕ, _*_, _≤_}
 use mathlib.Core.Path.{_≡_}
 use mathlib.Core.List.{List}
 use lib.ListN.{length}
@@ -25,18 +24,8 @@ pub record Ready (p R W : ℕ) (a u : List ℕ) : Type 0 where
   pub prime : Prime p
   pub below : Below p a
 
-pub record Reciprocal (p h r : ℕ) : Type 0 where
-  pub pos : 0 < p
-  pub small : p ≤ 257
-  pub less : h < p
-  pub is : r ≡ h * 65536 / p
-
 pub record RowCleared (p W k c r : ℕ) (a b : List ℕ) : Type 0 where
   pub matrix : b ≡ clearRow p W k c r a
-
--- where the first i rows of x are cleared before, the first n are after
-pub record RowsCleared (p W k c i n : ℕ) (a b : List ℕ) : Type 0 where
-  pub matrix : (x : List ℕ) → a ≡ clearTo p W k c i x → b ≡ clearTo p W k c n x
 
 pub record ColumnCleared (p R W k c : ℕ) (a b : List ℕ) : Type 0 where
   pub matrix : b ≡ clearTo p W k c R a

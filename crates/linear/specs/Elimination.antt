@@ -17,8 +17,6 @@
 -- elsewhere: column j is not q, and the row has an entry there
 -- alone: the row has no entry in the first C columns but at q
 -- fixes: position q is determined, as the reduced matrix shows it: the row with its pivot in q has no other entry in the first C columns
--- subEntry, subTo: y - f x modulo p; that for the first n entries of the row that starts at t, with those of the row that starts at q
--- scaleEntry, scaleTo: k x modulo p; that for the first n entries of the row that starts at t
 -- clearRow, clearTo: the entry of row r in column c cleared by the pivot row k; that for the first n rows
 -- Flat: the buffer, and the marks of its rows as in State
 -- view: a buffer as a matrix
@@ -40,12 +38,13 @@ use mathlib.Core.Bool.{Bool, true, false, not, _&&_}
 use mathlib.Core.List.{List}
 use Prim.Native.Nat.{ℕ, zero, suc, _+_, _-_, _*_, _%_, _<_}
 use lib.Dec.{eqb, leb, ltb}
-use lib.ListN.{length, getD, set}
+use lib.ListN.{length, set}
 use Rattle.base.specs.Choice.{pick}
 use Rattle.base.specs.Search.{first}
 use Rattle.base.specs.Sum.{unit}
 use Rattle.base.specs.Matrix.{entry, Below}
 use Rattle.field.specs.Prime.{inverseOf}
+use Rattle.rows.specs.Rows.{addRow, scaleRow}
 use Rattle.linear.specs.Dot.{at, dot, RowFor}
 
 -- ON MATRICES
@@ -101,23 +100,9 @@ unfoldable pub fixes : (R C : ℕ) → State → ℕ → Bool
 fixes R C s q = let r = pivotRow R (s .used) q in ltb r R && alone C (s .mat r) q
 
 -- ON A FLAT BUFFER
-unfoldable pub subEntry : (p f y x : ℕ) → ℕ
-subEntry p f y x = (y + (p - f) * x) % p
-
-unfoldable pub subTo : (p f t q n : ℕ) → List ℕ → List ℕ
-subTo p f t q zero a = a
-subTo p f t q (suc n) a = let b = subTo p f t q n a in set b (t + n) (subEntry p f (getD b (t + n) 0) (getD b (q + n) 0))
-
-unfoldable pub scaleEntry : (p k x : ℕ) → ℕ
-scaleEntry p k x = k * x % p
-
-unfoldable pub scaleTo : (p k t n : ℕ) → List ℕ → List ℕ
-scaleTo p k t zero a = a
-scaleTo p k t (suc n) a = let b = scaleTo p k t n a in set b (t + n) (scaleEntry p k (getD b (t + n) 0))
-
 -- the pivot row, and a row that has 0 there, are passed over
 unfoldable pub clearRow : (p W k c r : ℕ) → List ℕ → List ℕ
-clearRow p W k c r a = pick (eqb r k) a (pick (eqb (entry W a r c) 0) a (subTo p (entry W a r c) (r * W) (k * W) W a))
+clearRow p W k c r a = pick (eqb r k) a (pick (eqb (entry W a r c) 0) a (addRow p (p - entry W a r c) (r * W) (k * W) W a))
 
 unfoldable pub clearTo : (p W k c n : ℕ) → List ℕ → List ℕ
 clearTo p W k c zero a = a
@@ -135,7 +120,7 @@ flatPivot R W c s = pivotOf R c (view W s)
 
 unfoldable pub flatUse : (p R W k c : ℕ) → Flat → Flat
 flatUse p R W k c s =
-    record { mat = clearTo p W k c R (scaleTo p (inverseOf p (entry W (s .mat) k c)) (k * W) W (s .mat)); used = set (s .used) k (suc c) }
+    record { mat = clearTo p W k c R (scaleRow p (inverseOf p (entry W (s .mat) k c)) (k * W) W (s .mat)); used = set (s .used) k (suc c) }
 
 unfoldable pub flatColumn : (p R W c : ℕ) → Flat → Flat
 flatColumn p R W c s = let k = flatPivot R W c s in pick (ltb k R) (flatUse p R W k c s) s

@@ -1,15 +1,14 @@
 // Dot products, and Gauss-Jordan elimination modulo a prime on lent flat buffers with what is read off the reduced matrix: a solution, a refuted equation,
 // whether a position is determined. `a` holds `rows` rows of `width` entries; `used` holds, for each row, 0 or one more than the column of its pivot.
 ghost use mathlib.Core.Path.{_≡_};
-ghost use Prim.Native.Nat.{ℕ, _+_, _-_, _*_, _/_, _%_, _<_, _≤_};
+ghost use Prim.Native.Nat.{ℕ, _+_, _-_, _*_, _%_, _<_, _≤_};
 ghost use lib.ListN.{length, getD};
 ghost use Rattle.base.specs.Fill.{tab};
 ghost use Rattle.base.specs.Matrix.{Below};
 ghost use Rattle.field.specs.Prime.{Inverses};
 ghost use Rattle.linear.specs.Dot.{at, dot, along};
-ghost use Rattle.linear.specs.Elimination.{pivotRow, alone, subEntry, subTo, scaleEntry, scaleTo, flatPivot, flatShown, flatUnsolved, flatFixes};
-ghost use Rattle.linear.specs.Contracts.{buffers, Fits, Ready, Reciprocal, RowCleared, RowsCleared, ColumnCleared, RowUsed, ColumnPassed, Reduction};
-use field::Field;
+ghost use Rattle.linear.specs.Elimination.{pivotRow, alone, flatPivot, flatShown, flatUnsolved, flatFixes};
+ghost use Rattle.linear.specs.Contracts.{buffers, Fits, Ready, RowCleared, ColumnCleared, RowUsed, ColumnPassed, Reduction};
 
 // The product of d entries of u from u_at on and d entries of v from v_at on, v_step apart: summed in u64 and reduced once.
 pub fn dot_product(
@@ -36,109 +35,6 @@ pub fn dot_product(
     field::residue(p, sum)
 }
 
-// y - f x modulo p. The sum fits 32 bits, of which a vector has more lanes.
-fn sub_entry(y: u64, x: u64, f: u16, p: u16) -> u16
-    requires { ⌜ (y ≤ 65535) × (x ≤ 65535) × (f ≤ p) × (0 < p) ⌝ }
-    ensures { λ r. ⌜ r ≡ subEntry p f y x ⌝ }
-{
-    let g = (p - f) as u32;
-    (((y as u32) + g * (x as u32)) % (p as u32)) as u16
-}
-
-// The row that starts at t becomes that row less f times the row that starts at q: the loop.
-fn sub_row_by(a: &mut [u16], width: usize, t: usize, q: usize, f: u16, p: u16)
-    requires { ⌜ (t + width ≤ length (now a)) × (q + width ≤ length (now a)) × (f ≤ p) × (0 < p) ⌝ }
-    ensures { λ _. ⌜ now (a .exit) ≡ subTo p f t q width (now (a .entry)) ⌝ }
-{
-    let mut c = 0;
-    while c < width {
-        let x = base::at(a, q + c);
-        let y = base::at(a, t + c);
-        a[t + c] = sub_entry(y, x, f, p);
-        c += 1;
-    }
-}
-
-// The low half of a product.
-fn low(x: u16, y: u16) -> u16
-    ensures { λ r. ⌜ r ≡ x * y % 65536 ⌝ }
-{
-    ((x as u32) * (y as u32) % 65536) as u16
-}
-
-// The high half of a product.
-fn high(x: u16, y: u16) -> u16
-    ensures { λ r. ⌜ r ≡ x * y / 65536 ⌝ }
-{
-    ((x as u32) * (y as u32) / 65536) as u16
-}
-
-// y - f x modulo p, for p up to 257, in 16 bits, of which a vector has eight lanes: the high half of x r is the quotient by p or one less.
-fn sub_narrow(y: u16, x: u16, f: u16, r: u16, p: u16) -> u16
-    requires { ⌜ (y < p) × (x < p) × (f ≤ p) ⌝ }
-    requires { ⌜ Reciprocal p (p - f) r ⌝ }
-    ensures { λ v. ⌜ v ≡ subEntry p f y x ⌝ }
-{
-    let back = low(high(x, r), p);
-    let v = (((y as u32) + (low(x, p - f) as u32) + 65536 - (back as u32)) % 65536) as u16;
-    if p <= v { v - p } else { v }
-}
-
-// 65536 h / p, rounded down.
-fn quotient(h: u16, p: u16) -> u16
-    requires { ⌜ (h < p) × (0 < p) × (p ≤ 257) ⌝ }
-    ensures { λ r. ⌜ r ≡ h * 65536 / p ⌝ }
-{
-    ((h as u32) * 65536 / (p as u32)) as u16
-}
-
-// 65536 h / p, rounded down. A constant divisor needs no division.
-fn reciprocal(h: u16, p: u16) -> u16
-    requires { ⌜ (h < p) × (0 < p) × (p ≤ 257) ⌝ }
-    ensures { λ r. ⌜ r ≡ h * 65536 / p ⌝ }
-{
-    match p {
-        Field::P2 => quotient(h, 2),
-        Field::P7 => quotient(h, 7),
-        Field::P251 => quotient(h, 251),
-        Field::P257 => quotient(h, 257),
-        _ => quotient(h, p),
-    }
-}
-
-// The row that starts at t becomes that row less f times the row that starts at q: the loop for p up to 257.
-fn sub_row_narrow(a: &mut [u16], width: usize, t: usize, q: usize, f: u16, r: u16, p: u16)
-    requires { ⌜ (t + width ≤ length (now a)) × (q + width ≤ length (now a)) × (f ≤ p) × (0 < p) ⌝ }
-    requires { ⌜ Below p (now a) ⌝ }
-    requires { ⌜ Reciprocal p (p - f) r ⌝ }
-    ensures { λ _. ⌜ now (a .exit) ≡ subTo p f t q width (now (a .entry)) ⌝ }
-{
-    let mut c = 0;
-    while c < width {
-        let x = a[q + c];
-        let y = a[t + c];
-        a[t + c] = sub_narrow(y, x, f, r, p);
-        c += 1;
-    }
-}
-
-// The row that starts at t becomes that row less f times the row that starts at q.
-fn sub_row(a: &mut [u16], width: usize, t: usize, q: usize, f: u16, p: u16)
-    requires { ⌜ (t + width ≤ length (now a)) × (q + width ≤ length (now a)) × (0 < f) × (f < p) ⌝ }
-    requires { ⌜ Below p (now a) ⌝ }
-    ensures { λ _. ⌜ now (a .exit) ≡ subTo p f t q width (now (a .entry)) ⌝ }
-{
-    if p <= 257 {
-        let r = reciprocal(p - f, p);
-        sub_row_narrow(a, width, t, q, f, r, p);
-        return;
-    }
-    match p {
-        Field::P65521 => sub_row_by(a, width, t, q, f, 65521),
-        _ => sub_row_by(a, width, t, q, f, p),
-    }
-}
-
 // Clears the entry of row r in a column by the pivot row k.
 fn clear_row(a: &mut [u16], width: usize, k: usize, col: usize, r: usize, p: u16)
     requires { ⌜ (r * width + width ≤ length (now a)) × (k * width + width ≤ length (now a)) × (col < width) × (0 < p) ⌝ }
@@ -153,65 +49,19 @@ fn clear_row(a: &mut [u16], width: usize, k: usize, col: usize, r: usize, p: u16
     if f == 0 {
         return;
     }
-    sub_row(a, width, t, k * width, f, p);
+    rows::add_row(a, width, t, k * width, p - f, p);
 }
 
-// Clears a column in the rows from `top` on that are above `end`, by the pivot row k.
-fn clear_rows(a: &mut [u16], top: usize, end: usize, width: usize, k: usize, col: usize, p: u16)
-    requires { ⌜ (top ≤ end) × (end * width ≤ length (now a)) × (k * width + width ≤ length (now a)) × (col < width) × (0 < p) ⌝ }
-    requires { ⌜ Below p (now a) ⌝ }
-    ensures { λ _. ⌜ RowsCleared p width k col top end (now (a .entry)) (now (a .exit)) ⌝ }
-{
-    let mut r = top;
-    while r < end {
-        clear_row(a, width, k, col, r, p);
-        r += 1;
-    }
-}
-
-// Clears a column by the pivot row k. The rows above it and below it are two loops, so that neither meets the row that it reads.
+// Clears a column in every row but the pivot row k, by that row.
 fn clear_column(a: &mut [u16], rows: usize, width: usize, k: usize, col: usize, p: u16)
     requires { ⌜ (length (now a) ≡ rows * width) × (k < rows) × (col < width) × (0 < p) ⌝ }
     requires { ⌜ Below p (now a) ⌝ }
     ensures { λ _. ⌜ ColumnCleared p rows width k col (now (a .entry)) (now (a .exit)) ⌝ }
 {
-    clear_rows(a, 0, k, width, k, col, p);
-    clear_rows(a, k + 1, rows, width, k, col, p);
-}
-
-// k x modulo p.
-fn scale_entry(k: u16, x: u64, p: u16) -> u16
-    requires { ⌜ (x ≤ 65535) × (0 < p) ⌝ }
-    ensures { λ r. ⌜ r ≡ scaleEntry p k x ⌝ }
-{
-    ((k as u64) * x % (p as u64)) as u16
-}
-
-// The row that starts at t becomes k times that row: the loop.
-fn scale_row_by(a: &mut [u16], width: usize, t: usize, k: u16, p: u16)
-    requires { ⌜ (t + width ≤ length (now a)) × (0 < p) ⌝ }
-    ensures { λ _. ⌜ now (a .exit) ≡ scaleTo p k t width (now (a .entry)) ⌝ }
-{
-    let mut c = 0;
-    while c < width {
-        let x = base::at(a, t + c);
-        a[t + c] = scale_entry(k, x, p);
-        c += 1;
-    }
-}
-
-// The row that starts at t becomes k times that row. The modulus is a constant in each loop.
-fn scale_row(a: &mut [u16], width: usize, t: usize, k: u16, p: u16)
-    requires { ⌜ (t + width ≤ length (now a)) × (0 < p) ⌝ }
-    ensures { λ _. ⌜ now (a .exit) ≡ scaleTo p k t width (now (a .entry)) ⌝ }
-{
-    match p {
-        Field::P2 => scale_row_by(a, width, t, k, 2),
-        Field::P7 => scale_row_by(a, width, t, k, 7),
-        Field::P251 => scale_row_by(a, width, t, k, 251),
-        Field::P257 => scale_row_by(a, width, t, k, 257),
-        Field::P65521 => scale_row_by(a, width, t, k, 65521),
-        _ => scale_row_by(a, width, t, k, p),
+    let mut r = 0;
+    while r < rows {
+        clear_row(a, width, k, col, r, p);
+        r += 1;
     }
 }
 
@@ -261,7 +111,7 @@ fn use_row(
     let x = a[t + col];
     let scale = field::inverse_by(table, p, x);
     used[k] = mark(col);
-    scale_row(a, width, t, scale, p);
+    rows::scale_row(a, width, t, scale, p);
     clear_column(a, rows, width, k, col, p);
 }
 

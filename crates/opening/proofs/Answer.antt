@@ -13,7 +13,7 @@ use borrow.Author.Tests.{lt-ltb, le-ltb, not-false}
 use Rattle.base.specs.Choice.{pick}
 use Rattle.base.specs.Rules.{given}
 use Rattle.base.specs.Search.{every, first, Vec}
-use Rattle.base.specs.Fill.{tab, filled}
+use Rattle.base.specs.Fill.{tab, filled, laid}
 use Rattle.base.specs.Matrix.{entry, flat}
 use Rattle.base.proofs.Search.{first-le, first-ext, missing-all, found-there, every-at, every-all}
 use Rattle.base.proofs.Fill.{tab-ext}
@@ -30,7 +30,7 @@ use Rattle.scheme.specs.Opening.{opening}
 use Rattle.scheme.proofs.Calls.{SetOk}
 use Rattle.scheme.proofs.Sets.{rows}
 use Rattle.scheme.proofs.Certificates.{row-in-hand, no-row, opened-by, inconsistent-in-hand}
-use Rattle.sets.specs.Contracts.{membersOf, Walked, Fresh, laid}
+use Rattle.sets.specs.Contracts.{membersOf, Walked, Fresh}
 use Rattle.sets.proofs.Load.{row-part, row-last, loaded-ready, reduced-loaded}
 use Rattle.sets.proofs.Members.{prime-of, wide, narrow, entry-small, counted, listed, zeros, part-size}
 use Rattle.opening.specs.Systems as systems

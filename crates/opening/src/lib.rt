@@ -31,7 +31,7 @@ fn load_beside(matrix: &[u16], d: usize, members: &[u16], shares: &[u16], a: &mu
     while i < members.len() {
         let from = sets::row_start(members, i, d);
         let t = i * (d + 1);
-        sets::copy(a, t, matrix, from, d);
+        base::copy(a, t, matrix, from, d);
         a[t + d] = shares[i];
         i += 1;
     }

@@ -1,9 +1,7 @@
 -- The laws of the points matrix as it is worked out, and of the table of its call without the last rule.
-use Prim.Native.Nat.{ℕ, zero, suc, _+_, _*_, _/_, _%_, _≤_, _<_}
+use Prim.Native.Nat.{ℕ, zero, suc, _+_, _*_, _%_, _≤_, _<_}
 use mathlib.Core.Path.{_≡_, refl, _∙_}
 use mathlib.Core.Bool.{Bool}
-use mathlib.Core.List.{[]}
-use native.Mathlib.Nat.{mod-lt, mul-zero, div-lt-iff-lt-mul}
 use native.Mathlib.Numerals.{add-one}
 use native.Mathlib.Omega.{arith}
 use lib.Dec.{eqb, ltb}
@@ -17,7 +15,7 @@ use Rattle.linear.specs.Polynomial.{minus, basis, lagrange, point}
 use Rattle.scheme.specs.Setup.{Setup, dim, Limits}
 use Rattle.scheme.specs.Calls.{pointsRules}
 use Rattle.scheme.proofs.Calls.{limits-of, size-is}
-use Rattle.points.specs.Grid.{zeros, zeroRows, weightOf, weightsOf, pointsRow, pointsRows, pointsSizes}
+use Rattle.points.specs.Grid.{zeros, weightOf, weightsOf, pointsSizes}
 
 -- a basis begins at 1 and takes one factor more, reduced
 pub basis-none : (p j : ℕ) (a : ℕ → ℕ) (x : ℕ) → basis p 0 j a x ≡ 1
@@ -37,12 +35,6 @@ weights-at p d j hd hj = getD-filled (weightOf p d) d zeros j 0 hj (omega arith)
 pub weighed : (p d i j : ℕ) → weightOf p d j * (basis p d j (λ t. t) (d + i) % p) % p ≡ point p d i j
 unfolding point lagrange weightOf
 weighed p d i j = mul-mod-mod _ _ p
-
--- an entry of the local rows
-pub rows-at : (p d n i j : ℕ) → d ≤ 16 → n ≤ 32 → i < n → j < d → getD (getD (pointsRows p d n) i []) j 0 ≡ point p d i j
-unfolding zeros zeroRows pointsRow pointsRows
-rows-at p d n i j hd hn hi hj =
-    rw (getD-filled (pointsRow p d) n zeroRows i [] hi (omega arith), getD-filled (point p d i) d zeros j 0 hj (omega arith))
 
 -- a number that stands is not lowered by a later rule
 pub not-lowered : (r k : ℕ) (b : Bool) → r ≤ orWhen r k b

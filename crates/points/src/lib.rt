@@ -2,7 +2,7 @@
 // are in order.
 ghost use mathlib.Core.Path.{_≡_};
 ghost use mathlib.Core.List.{[]};
-ghost use Prim.Native.Nat.{_*_, _%_, _<_, _≤_};
+ghost use Prim.Native.Nat.{_+_, _*_, _%_, _<_, _≤_};
 ghost use lib.Dec.{eqb};
 ghost use lib.ListN.{length};
 ghost use Rattle.base.specs.Choice.{pick};
@@ -14,7 +14,7 @@ ghost use Rattle.linear.specs.Polynomial.{minus, basis, point};
 ghost use Rattle.scheme.specs.Setup.{setupOf};
 ghost use Rattle.scheme.specs.Answers.{answerBy, paperWritten};
 ghost use Rattle.scheme.specs.Calls.{pointsCall, pointsLeft};
-ghost use Rattle.points.specs.Grid.{weightOf, weightsOf, pointsRow, pointsSizes};
+ghost use Rattle.points.specs.Grid.{weightOf, weightsOf, RowWritten, pointsSizes};
 use scheme::Params;
 use scheme::Written;
 
@@ -77,31 +77,15 @@ fn point(p: u16, d: usize, i: usize, j: usize, w: u16) -> u16
     field::product(p, w, basis_at(p, d, j, d + i))
 }
 
-// Row i of the points matrix: d entries, then zeros.
-fn row(p: u16, d: usize, i: usize, by: &[u16; 16]) -> [u16; 16]
-    requires { ⌜ (1 < p) × (d ≤ 16) × (i ≤ 32) × (now by ≡ weightsOf p d) ⌝ }
-    ensures { λ r. ⌜ r ≡ pointsRow p d i ⌝ }
+// Row i of the points matrix into the lent matrix, where the rows above stand already.
+fn write_row(p: u16, d: usize, i: usize, by: &[u16; 16], matrix: &mut [u16])
+    requires { ⌜ (1 < p) × (d ≤ 16) × (i ≤ 32) × (now by ≡ weightsOf p d) × (i * d + d ≤ length (now matrix)) ⌝ }
+    ensures { λ _. ⌜ RowWritten p d i (now (matrix .entry)) (now (matrix .exit)) ⌝ }
 {
-    let mut entries = [0u16; 16];
     let mut j = 0;
     while j < d {
-        entries[j] = point(p, d, i, j, by[j]);
+        matrix[i * d + j] = point(p, d, i, j, by[j]);
         j += 1;
-    }
-    entries
-}
-
-// The n rows of the points matrix, into the lent rows.
-fn points_rows(p: u16, d: usize, n: usize, rows: &mut [[u16; 16]])
-    requires { ⌜ (d ≤ 16) × (n ≤ 32) × (length (now rows) ≡ 32) ⌝ }
-    requires { ⌜ Prime p ⌝ }
-    ensures { λ _. ⌜ now (rows .exit) ≡ filled (pointsRow p d) n (now (rows .entry)) ⌝ }
-{
-    let by = weights(p, d);
-    let mut i = 0;
-    while i < n {
-        rows[i] = row(p, d, i, &by);
-        i += 1;
     }
 }
 
@@ -111,12 +95,11 @@ fn write_points(p: u16, d: usize, n: usize, matrix: &mut [u16])
     requires { ⌜ Prime p ⌝ }
     ensures { λ _. ⌜ now (matrix .exit) ≡ filled (flat d (point p d)) (n * d) (now (matrix .entry)) ⌝ }
 {
-    let mut rows = [[0u16; 16]; 32];
-    points_rows(p, d, n, &mut rows);
-    let mut t = 0;
-    while t < matrix.len() {
-        matrix[t] = rows[t / d][t % d];
-        t += 1;
+    let by = weights(p, d);
+    let mut i = 0;
+    while i < n {
+        write_row(p, d, i, &by, matrix);
+        i += 1;
     }
 }
 

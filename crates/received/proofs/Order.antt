@@ -15,9 +15,9 @@ use lib.Seq.{drop-at}
 use lib.Dec.{ltb, leb, eqb}
 use borrow.Author.Tests.{le-ltb, lt-leb, eq-eqb, eqb-true, eqb-false}
 use Rattle.base.specs.Choice.{pick}
-use Rattle.words.specs.Words.{bytes, wordAt}
+use Rattle.words.specs.Words.{bytes}
 use Rattle.words.proofs.Words.{length-bytes, word-of}
-use Rattle.records.specs.Records.{markPV, markVD, pairSize, verdictSize, pairWords, verdictWords, pairAt, verdictAt}
+use Rattle.records.specs.Records.{pairSize, verdictSize, pairWords, verdictWords, pairAt, verdictAt}
 use Rattle.records.specs.declared.PairRecord.{PairRecord}
 use Rattle.records.specs.declared.VerdictRecord.{VerdictRecord}
 use Rattle.received.specs.declared.Head.{Head}

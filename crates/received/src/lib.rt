@@ -1,7 +1,7 @@
 // The PV and VD records of a holder's file, read one after the other to the file's end or to the first that is faulty.
 ghost use mathlib.Core.Path.{_≡_};
 ghost use Prim.Native.Nat.{_+_, _≤_, _<_};
-ghost use lib.ListN.{length, getD, drop};
+ghost use lib.ListN.{length, getD};
 ghost use Rattle.records.specs.Records.{pairAt, verdictAt};
 ghost use Rattle.received.specs.Received.{pairFault, verdictFault, markFault, refuse, takePair, takeVerdict, stepPair, stepVerdict, Inside, readReceived, step as Received·step};
 use records::PairRecord;

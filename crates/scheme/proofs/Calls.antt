@@ -1,15 +1,15 @@
 -- What an accepted call says of its inputs, and that inputs which break nothing are accepted: each table is cleared by its inputs' facts, and its
 -- being clear gives them back.
 use mathlib.Core.Path.{_≡_, refl, sym, ap, _∙_}
-use mathlib.Core.Bool.{Bool, true, false, not, _||_, _&&_, false≢true}
+use mathlib.Core.Bool.{Bool, true, false, not, _||_, false≢true}
 use mathlib.Core.List.{List, [], _∷_, _++_}
 use Prim.Native.Nat.{ℕ, zero, suc, _+_, _-_, _*_, _^_, _≤_, _<_}
 use native.Mathlib.Omega.{arith}
 use lib.Dec.{eqb, leb, ltb, T}
-use lib.ListN.{length, getD}
-use borrow.Author.Tests.{eqb-true, eq-eqb, ne-eqb, ltb-false, le-ltb, leb-false, lt-leb, not-false, not-true}
+use lib.ListN.{length}
+use borrow.Author.Tests.{eqb-true, eq-eqb, ne-eqb, ltb-false, le-ltb, leb-false, lt-leb, not-false}
 use Rattle.base.specs.Choice.{pick}
-use Rattle.base.specs.Rules.{Rule, _when_, refusalFrom, refusal, Rising, Clear, Answer, refused, given}
+use Rattle.base.specs.Rules.{Rule, _when_, refusal, Clear, Answer, refused, given}
 use Rattle.base.specs.Search.{Vec}
 use Rattle.base.specs.Matrix.{allBelow, Below}
 use Rattle.base.proofs.Rules.{clear, none-applies}

@@ -1,7 +1,7 @@
 -- The cases that document 01 marks ● ("The holder program on paper"), on its example setup: the lines of one table, proved together from the
 -- definitions; and the case of the reviewer's condition on the openers.
 use mathlib.Core.Path.{_≡_, refl}
-use mathlib.Core.Bool.{true, false, _&&_}
+use mathlib.Core.Bool.{false, _&&_}
 use mathlib.Core.List.{List, [], _∷_, _++_, map}
 use mathlib.Core.Option.{Option·getD}
 use Prim.Native.Nat.{ℕ}

@@ -1,17 +1,17 @@
 -- Demand 3, proved. With a reconstruction row r for position b over the group, g_j[b] = Σ_i r_i (g_j · m_i) = Σ_i r_i (m_j · h^i) = m_j · (Σ_i r_i h^i), so the
 -- vector Σ_i r_i h^i gives every member's share of column b; its first ℓ entries are fixed by the shares, because the group determines them. The own pairs
 -- are used, no inverse is.
-use mathlib.Core.Path.{_≡_, refl, ap, ap₂, sym, _∙_, _≡⟨_⟩_, _∎}
+use mathlib.Core.Path.{_≡_, refl, ap, sym, _∙_, _≡⟨_⟩_, _∎}
 use mathlib.Core.Bool.{Bool, true, false, _&&_, not, false≢true}
 use mathlib.Core.List.{List, [], _∷_}
-use mathlib.Core.Logic.{_⊎_, inl, inr, ⊎-elim}
+use mathlib.Core.Logic.{_⊎_, inl, inr}
 use mathlib.Core.Option.{Option, none, some, Option·none-ne-some}
-use Prim.Native.Nat.{ℕ, zero, suc, _+_, _-_, _*_, _/_, _%_, _^_, _≤_, _<_}
+use Prim.Native.Nat.{ℕ, _+_, _-_, _*_, _%_, _≤_, _<_}
 use native.Mathlib.Nat.{mod-mod, mod-lt, mod-eq-of-lt}
 use native.Mathlib.Omega.{arith}
-use borrow.Author.Tests.{eqb-true, eq-eqb, not-true, not-false, ltb-true, ltb-false, lt-ltb, le-ltb}
+use borrow.Author.Tests.{eqb-true, eq-eqb, not-true, not-false, lt-ltb, le-ltb}
 use lib.Dec.{eqb, ltb}
-use lib.Arith.{digits-lt, digits-div, digits-mod}
+use lib.Arith.{digits-lt}
 use lib.ListN.{length, getD, take}
 use lib.Seq.{ext-getD, getD-take, length-take-le}
 use Rattle.base.specs.Choice.{pick}
@@ -22,19 +22,19 @@ use Rattle.base.specs.Fill.{tab}
 use Rattle.base.specs.Matrix.{entry, flat, allBelow}
 use Rattle.base.proofs.Choice.{and-left, and-right}
 use Rattle.base.proofs.Search.{every-at, every-all, first-is, first-missing, firstVec-sound, firstVec-complete}
-use Rattle.base.proofs.Fill.{length-tab, getD-tab, tab-is, tab-ext, tab-vec, flat-at}
-use Rattle.base.proofs.Matrix.{below-by, below-is}
+use Rattle.base.proofs.Fill.{length-tab, getD-tab, tab-is, tab-vec, flat-at}
+use Rattle.base.proofs.Matrix.{below-is}
 use Rattle.field.specs.Prime.{Prime}
-use Rattle.linear.specs.Dot.{at, dot, RowFor}
+use Rattle.linear.specs.Dot.{at, dot}
 use Rattle.linear.proofs.Dot.{dot-comm, dot-ext, dot-mod-right, dot-assoc, row-reads}
-use Rattle.scheme.specs.Setup.{Setup, dim, row, Limits, IsSetup}
-use Rattle.scheme.specs.Answers.{accepts, kept, yes, no, inconsistent, undetermined, answerBy, leftBy}
-use Rattle.scheme.specs.Dealing.{place, dealtEntry, dealt, partG, partH, pairValue, expected, judge, outcome, isKept, shares}
+use Rattle.scheme.specs.Setup.{Setup, dim, row}
+use Rattle.scheme.specs.Answers.{accepts, kept, yes, no, inconsistent, leftBy}
+use Rattle.scheme.specs.Dealing.{place, dealtEntry, dealt, partG, partH, pairValue, expected, judge, outcome, shares}
 use Rattle.scheme.specs.Sets.{holds, members, rowAt, hasRow, determines}
 use Rattle.scheme.specs.Opening.{gives, opening, openedBy, combine}
-use Rattle.scheme.specs.Calls.{decide, pairValueCall, judgeCall, judgeRules, outcomeCall, outcomeLeft, outcomeRules, determinesCall, setRules, openRules, openCall, openLeft, openAnswer, combineRules, combineCall, pairValueRules, dealRules, dealCall, dealLeftG, dealLeftH}
-use Rattle.scheme.specs.Demand.{Dealing, Member, Keeps, Done, Terms, InLimits, constants, sharesOver, Handed, Array, column, IsArray, AgreesAt, Agrees, ExactlyOne, secretsOver, Opens, Refused, by-four, by-seven, Found, Honest, arrayDealt, HonestFound, Demand3}
-use Rattle.scheme.proofs.Calls.{not-refused, limits-prime, limits-pos, set-ok, SetOk, judge-ok, JudgeOk, judge-accepts, outcome-ok, OutcomeOk, outcome-accepts, pairValue-ok, PairValueOk, pairValue-accepts, open-by-shares, CombineOk, combine-accepts, DealOk, deal-ok, below-vec}
+use Rattle.scheme.specs.Calls.{decide, judgeCall, judgeRules, outcomeRules, determinesCall, setRules, openRules, openCall, openLeft, openAnswer, combineRules, combineCall, pairValueRules, dealRules}
+use Rattle.scheme.specs.Demand.{Dealing, Member, Keeps, Done, Terms, constants, sharesOver, Handed, Array, column, IsArray, AgreesAt, Agrees, ExactlyOne, secretsOver, Opens, Refused, by-four, by-seven, Found, Honest, arrayDealt, HonestFound, Demand3}
+use Rattle.scheme.proofs.Calls.{not-refused, limits-prime, limits-pos, set-ok, SetOk, judge-accepts, outcome-ok, outcome-accepts, open-by-shares, combine-accepts, DealOk, deal-ok, below-vec}
 use Rattle.scheme.proofs.Verdicts.{accept-means, accept-when, kept-means, kept-when}
 use Rattle.scheme.proofs.Members.{member-at, place-of, members-wide}
 use Rattle.scheme.proofs.Sets.{theRow, theRow-is, same-secrets}

@@ -1,22 +1,21 @@
 -- Honest runs exist: whatever setup, secrets and random entries are within the limits, there is the dealing in which all follow the rules and
 -- every message arrives. So demand 3's hypotheses are met by every group that determines the secrets.
-use mathlib.Core.Path.{_≡_, refl, sym, ap, _∙_}
+use mathlib.Core.Path.{_≡_, refl, sym, ap}
 use mathlib.Core.List.{List, [], _∷_}
-use Prim.Native.Nat.{ℕ, _+_, _-_, _*_, _%_, _<_}
+use Prim.Native.Nat.{ℕ, _-_, _<_}
 use native.Mathlib.Nat.{mod-lt}
-use native.Mathlib.Omega.{arith}
 use borrow.Author.Tests.{lt-leb}
 use lib.ListN.{length, replicate, length-replicate}
-use Rattle.base.specs.Rules.{Answer, refusal, given}
+use Rattle.base.specs.Rules.{refusal, given}
 use Rattle.base.specs.Search.{Vec}
 use Rattle.base.specs.Fill.{tab}
 use Rattle.base.proofs.Rules.{none-applies}
 use Rattle.base.proofs.Fill.{length-tab, getD-tab, tab-vec}
 use Rattle.linear.specs.Dot.{at}
-use Rattle.scheme.specs.Setup.{Setup, dim, IsSetup}
+use Rattle.scheme.specs.Setup.{Setup, dim}
 use Rattle.scheme.specs.Answers.{yes}
-use Rattle.scheme.specs.Dealing.{partG, partH, pairValue, dealt}
-use Rattle.scheme.specs.Calls.{dealRules, dealLeftG, dealLeftH, pairValueRules, judgeCall, outcomeLeft, determinesCall}
+use Rattle.scheme.specs.Dealing.{partG, pairValue}
+use Rattle.scheme.specs.Calls.{dealRules, dealLeftG, dealLeftH, judgeCall, outcomeLeft, determinesCall}
 use Rattle.scheme.specs.Demand.{Dealing, Done, Honest}
 use Rattle.scheme.proofs.Calls.{limits-clear, limits-pos, size-clear, elements-clear, DealOk, pairValue-accepts}
 use Rattle.scheme.proofs.Demand.{demand3}

@@ -6,11 +6,11 @@
 use mathlib.Core.Path.{_≡_}
 use mathlib.Core.Bool.{Bool, true, not, _&&_, _||_}
 use mathlib.Core.List.{List, [], _∷_, _++_}
-use Prim.Native.Nat.{ℕ, zero, suc, _+_, _-_, _*_, _%_, _^_}
+use Prim.Native.Nat.{ℕ, _+_, _-_, _*_, _^_}
 use lib.Dec.{eqb, leb, ltb}
 use lib.ListN.{length, replicate}
 use Rattle.base.specs.Choice.{pick}
-use Rattle.base.specs.Rules.{Rule, _when_, refusal, Answer, refused, given}
+use Rattle.base.specs.Rules.{Rule, _when_, refusal, Answer, given}
 use Rattle.base.specs.Search.{Vec}
 use Rattle.base.specs.Fill.{tab}
 use Rattle.base.specs.Matrix.{flat, allBelow}

@@ -2,12 +2,12 @@
 -- the calls' own definitions (Calls.antt), so that nothing is assumed which a call does not check; proofs/Demand.antt proves it.
 -- Quoted lines are document 01's.
 use mathlib.Core.Path.{_≡_}
-use mathlib.Core.Bool.{Bool, true, _&&_}
+use mathlib.Core.Bool.{true, _&&_}
 use mathlib.Core.List.{List, [], _∷_}
 use mathlib.Core.Logic.{_⊎_}
-use Prim.Native.Nat.{ℕ, _+_, _*_, _%_, _^_, _≤_, _<_}
+use Prim.Native.Nat.{ℕ, _%_, _^_, _≤_, _<_}
 use lib.ListN.{length, getD, take}
-use Rattle.base.specs.Rules.{Answer, refused, given}
+use Rattle.base.specs.Rules.{refused, given}
 use Rattle.base.specs.Search.{Vec}
 use Rattle.base.specs.Fill.{tab}
 use Rattle.base.specs.Matrix.{entry}

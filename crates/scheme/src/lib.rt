@@ -1,11 +1,10 @@
 // The types that the calls take and answer with, and the refusals that they share. What each case of a type means in document 01 is said by the
 // `paper` definitions of specs/Answers.antt.
 ghost use mathlib.Core.Path.{_≡_};
-ghost use mathlib.Core.Bool.{not, _||_};
+ghost use mathlib.Core.Bool.{not};
 ghost use mathlib.Core.List.{[]};
 ghost use Prim.Native.Nat.{_+_, _*_, _≤_};
-ghost use lib.Dec.{eqb, ltb};
-ghost use lib.ListN.{length};
+ghost use lib.Dec.{eqb};
 ghost use Rattle.base.specs.Rules.{orWhen, refusal};
 ghost use Rattle.base.specs.Matrix.{allBelow};
 ghost use Rattle.scheme.specs.Setup.{setupOf};

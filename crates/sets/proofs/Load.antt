@@ -1,54 +1,30 @@
 -- How a system comes into a buffer row by row, and that the buffer then shows it.
--- laid-step, laid-none, length-laid: writing entries from a place on, entry by entry
 -- row-part, row-last: a part of a row of a matrix that lies flat, and its last entry
 -- loaded-whole: the buffer is filled when every row is written
 -- loaded-ready, reduced-loaded: a loaded buffer may be reduced, and reduced it shows the reduced system
-use mathlib.Core.Path.{_≡_, refl, sym, ap, _∙_}
+use mathlib.Core.Path.{_≡_, sym, ap, _∙_}
 use mathlib.Core.List.{List}
 use Prim.Native.Nat.{ℕ, zero, suc, _+_, _*_, _/_, _%_, _≤_, _<_}
-use native.Mathlib.Nat.{add-zero, mod-eq-of-lt, mod-lt, div-lt-iff-lt-mul}
-use native.Mathlib.Numerals.{add-one}
+use native.Mathlib.Nat.{mod-eq-of-lt, mod-lt, div-lt-iff-lt-mul}
 use native.Mathlib.Decide.{decLt}
 use native.Mathlib.Omega.{arith}
-use lib.ListN.{length, getD, set, length-set, List·getD-eq-default}
-use Rattle.base.specs.Fill.{tab, filled}
+use lib.ListN.{length, getD, set, List·getD-eq-default}
+use Rattle.base.specs.Fill.{tab, laid, filled}
 use Rattle.base.specs.Matrix.{entry, flat, Below}
-use Rattle.base.proofs.Fill.{getD-tab, length-tab, filled-store, filled-whole, flat-at}
+use Rattle.base.proofs.Fill.{getD-tab, length-tab, filled-store, filled-whole, flat-at, laid-filled}
 use Rattle.base.proofs.Matrix.{entry-fits}
 use Rattle.field.specs.Prime.{Prime}
 use Rattle.linear.specs.Dot.{at}
 use Rattle.linear.specs.Elimination.{reduced, Shows}
 use Rattle.linear.specs.Contracts.{buffers, Ready, Reduction}
 use Rattle.linear.proofs.Flat.{start-shows, reduced-shows}
-use Rattle.sets.specs.Contracts.{Fresh, laid}
-
--- WRITING
-module _ (f : ℕ → ℕ) (t : ℕ) where
-  pub laid-step : (n : ℕ) (a : List ℕ) → laid f t (n + 1) a ≡ set (laid f t n a) (t + n) (f n)
-  unfolding laid
-  laid-step n a = rw add-one refl
-
-  pub laid-none : (a : List ℕ) → a ≡ laid f t 0 a
-  unfolding laid
-  laid-none a = refl
-
-  pub length-laid : (n : ℕ) (a : List ℕ) → length (laid f t n a) ≡ length a
-  unfolding laid
-  length-laid zero a = refl
-  length-laid (suc n) a = simp (length-set, length-laid n a)
-
-  laid-fills : (g : ℕ → ℕ) (n : ℕ) (x a : List ℕ) → a ≡ filled g t x → ((j : ℕ) → j < n → f j ≡ g (t + j)) → laid f t n a ≡ filled g (t + n) x
-  unfolding laid
-  laid-fills g zero x a e h = rw add-zero e
-  laid-fills g (suc n) x a e h =
-      filled-store g (t + n) x (laid f t n a) (f n) (laid-fills g n x a e (λ j l. h j (omega arith))) (h n (omega arith))
-      ∙ ap (λ k. filled g k x) (omega arith)
+use Rattle.sets.specs.Contracts.{Fresh}
 
 -- a part of a row of a matrix that lies flat, from column c on, and its last entry
 module _ (W : ℕ) (G : ℕ → ℕ → ℕ) (i c t : ℕ) (x a : List ℕ) (place : t ≡ i * W + c) (e : a ≡ filled (flat W G) t x) where
   pub row-part : (f : ℕ → ℕ) (n : ℕ) → c + n ≤ W → ((j : ℕ) → j < n → f j ≡ G i (c + j)) → laid f t n a ≡ filled (flat W G) (t + n) x
   row-part f n fit h =
-      laid-fills f t (flat W G) n x a e (λ j l. h j l ∙ flat-at W G i (c + j) (omega arith) ∙ ap (flat W G) (omega arith))
+      laid-filled f (flat W G) t n x a e (λ j l. h j l ∙ flat-at W G i (c + j) (omega arith) ∙ ap (flat W G) (omega arith))
 
   pub row-last : (v : ℕ) → c + 1 ≡ W → v ≡ G i c → set a t v ≡ filled (flat W G) ((i + 1) * W) x
   row-last v fit h =

@@ -3,11 +3,10 @@
 -- Walked: the members stand at the start of the list, k of them
 -- Lie: the members' rows lie in the matrix
 -- Fresh: buffers for R rows of W entries, no row used
--- laid: the list a with f 0, .., f (n - 1) written from place t on
 use mathlib.Core.Path.{_≡_}
 use mathlib.Core.List.{List}
-use Prim.Native.Nat.{ℕ, zero, suc, _+_, _*_, _≤_, _<_}
-use lib.ListN.{length, set, take}
+use Prim.Native.Nat.{ℕ, _+_, _*_, _≤_, _<_}
+use lib.ListN.{length, take}
 use Rattle.linear.specs.Dot.{at}
 use Rattle.scheme.specs.Setup.{Setup}
 use Rattle.scheme.specs.Sets.{holds, members}
@@ -27,7 +26,3 @@ pub record Fresh (R W : ℕ) (a u : List ℕ) : Type 0 where
   pub size : length a ≡ R * W
   pub marks : length u ≡ R
   pub unused : (i : ℕ) → i < R → at u i ≡ 0
-
-unfoldable pub laid : (ℕ → ℕ) → ℕ → ℕ → List ℕ → List ℕ
-laid f t zero a = a
-laid f t (suc n) a = set (laid f t n a) (t + n) (f n)

@@ -7,7 +7,7 @@ ghost use Rattle.scheme.specs.Setup.{setupOf};
 ghost use Rattle.scheme.specs.Answers.{paperDecided};
 ghost use Rattle.scheme.specs.Sets.{holds, members};
 ghost use Rattle.scheme.specs.Calls.{beyond, setRules, privateCall};
-ghost use Rattle.sets.specs.Contracts.{Walked, laid};
+ghost use Rattle.sets.specs.Contracts.{Walked};
 use scheme::Decided;
 use scheme::Params;
 
@@ -46,25 +46,12 @@ pub fn walk(set: u32, out: &mut [u16]) -> usize
     k
 }
 
-// ROWS INTO BUFFERS
 // Where the row of member i starts in the matrix.
 pub fn row_start(members: &[u16], i: usize, d: usize) -> usize
     requires { ⌜ (i < length (now members)) × (d ≤ 16) ⌝ }
     ensures { λ r. ⌜ r ≡ getD (now (members .entry)) i 0 * d ⌝ }
 {
     (base::at(members, i) as usize) * d
-}
-
-// Copies n entries of m, from `from` on, into a, from t on.
-pub fn copy(a: &mut [u16], t: usize, m: &[u16], from: usize, n: usize)
-    requires { ⌜ (t + n ≤ length (now a)) × (from + n ≤ length (now m)) ⌝ }
-    ensures { λ _. ⌜ now (a .exit) ≡ laid (λ j. getD (now (m .entry)) (from + j) 0) t n (now (a .entry)) ⌝ }
-{
-    let mut j = 0;
-    while j < n {
-        a[t + j] = m[from + j];
-        j += 1;
-    }
 }
 
 // SETS

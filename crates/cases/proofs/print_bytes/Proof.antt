@@ -1,8 +1,6 @@
-use lib.ListN.{length, getD, set, length-set}
+use lib.ListN.{length}
 use borrow.Author.Needs.{needs}
-use native.Mathlib.Omega.{arith}
-use mathlib.Core.Path.{_≡_, refl, sym, ap, _∙_}
-use Prim.Native.Nat.{ℕ, _+_, _-_, _*_, _/_, _%_, _≤_, _<_}
+use Prim.Native.Nat.{_-_, _≤_}
 use Rattle.cases.proofs.print_bytes.Statement.{statement}
 use Rattle.cases.proofs.print_bytes.Tie as tie
 use Rattle.cases.proofs.print_bytes.Reads as reads

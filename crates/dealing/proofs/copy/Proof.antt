@@ -5,20 +5,20 @@ use native.Mathlib.Nat.{le-antisymm}
 use native.Mathlib.Omega.{arith}
 use borrow.Author.Needs.{needs}
 use lib.ListN.{length, length-set}
+use Rattle.base.specs.Fill.{laid}
+use Rattle.base.proofs.Fill.{laid-none, laid-store}
 use Rattle.linear.specs.Dot.{along}
-use Rattle.dealing.specs.Put.{put}
-use Rattle.dealing.proofs.Put.{put-none, put-store}
 use Rattle.dealing.proofs.copy.Statement.{statement}
 use Rattle.dealing.proofs.copy.Tie as tie
 
 abbrev Inv-loop : tie.InvT-loop
-Inv-loop from start step count out₀ at k₀ out k = (k ≤ count) × (length out ≡ length out₀) × (out ≡ put (along from start step) at k out₀)
+Inv-loop from start step count out₀ at k₀ out k = (k ≤ count) × (length out ≡ length out₀) × (out ≡ laid (along from start step) at k out₀)
 
 abbrev μ-loop : tie.MeasureT-loop
 μ-loop from start step count out₀ at k₀ out k = count - k
 
 loop-holds : tie.Need-loop-holds Inv-loop μ-loop
-loop-holds c = (search needs, search needs, put-none _ _ _)
+loop-holds c = (search needs, search needs, laid-none _ _ _)
 
 mul-out : tie.Need-mul-out Inv-loop μ-loop
 mul-out c = omega (arith, c .before .before .pre .1 (c .before .loop .k) (omega arith))
@@ -50,7 +50,7 @@ loop-less c = search needs
 loop-again : tie.Need-loop-again Inv-loop μ-loop
 loop-again c =
     let l = c .before .before .loop in
-    (search needs, simp length-set (l .inv .1), put-store _ _ _ _ _ _ (l .inv .2) refl)
+    (search needs, simp length-set (l .inv .1), laid-store _ _ _ _ _ _ (l .inv .2) refl)
 
 same-length : tie.Need-same-length Inv-loop μ-loop
 same-length c = c .before .loop .inv .1

@@ -8,11 +8,10 @@ use lib.ListN.{length}
 use Rattle.base.specs.Matrix.{flat}
 use Rattle.base.specs.Fill.{filled}
 use Rattle.base.proofs.Matrix.{row-fits}
-use Rattle.base.proofs.Fill.{filled-none}
+use Rattle.base.proofs.Fill.{filled-none, length-laid}
 use Rattle.scheme.specs.Dealing.{dealtEntry}
 use Rattle.dealing.specs.Parts.{sized}
 use Rattle.dealing.proofs.Parts.{square-fits, row-begun, row-ended, rest-ended}
-use Rattle.dealing.proofs.Put.{length-put}
 use Rattle.dealing.proofs.fill_dealt.Statement.{statement}
 use Rattle.dealing.proofs.fill_dealt.Tie as tie
 
@@ -94,7 +93,7 @@ loop-again c =
     let ended = c .before .before .copy2 .ensures in
     let t = c .before .before .before .before .before .before .before .before .loop-test .taken in (
       search needs,
-      ap length ended ∙ length-put _ _ _ _ ∙ ap length begun ∙ length-put _ _ _ _ ∙ a .loop .inv .1,
+      ap length ended ∙ length-laid _ _ _ _ ∙ ap length begun ∙ length-laid _ _ _ _ ∙ a .loop .inv .1,
       ended ∙ row-ended _ _ _ _ _ _ (a .loop .k) t (begun ∙ row-begun _ _ _ (x .random .now) _ _ (a .loop .k) t (a .loop .inv .2)),
     )
 
@@ -125,7 +124,7 @@ copy-requires-3 c κs =
     )
 
 same-length : tie.Need-same-length Inv-loop μ-loop
-same-length c = ap length (c .before .before .copy3 .ensures) ∙ length-put _ _ _ _ ∙ c .before .before .before .before .before .loop .inv .1
+same-length c = ap length (c .before .before .copy3 .ensures) ∙ length-laid _ _ _ _ ∙ c .before .before .before .before .before .loop .inv .1
 
 returns : tie.Need-returns Inv-loop μ-loop
 returns c =

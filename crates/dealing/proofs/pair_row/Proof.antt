@@ -5,15 +5,15 @@ use native.Mathlib.Nat.{le-antisymm}
 use native.Mathlib.Omega.{arith}
 use borrow.Author.Needs.{needs}
 use lib.ListN.{length, length-set}
-use Rattle.dealing.specs.Put.{put}
+use Rattle.base.specs.Fill.{laid}
+use Rattle.base.proofs.Fill.{laid-none, laid-store}
 use Rattle.dealing.specs.Pairs.{pairOf}
-use Rattle.dealing.proofs.Put.{put-none, put-store}
 use Rattle.dealing.proofs.Parts.{square-row}
 use Rattle.dealing.proofs.pair_row.Statement.{statement}
 use Rattle.dealing.proofs.pair_row.Tie as tie
 
 abbrev Inv-loop : tie.InvT-loop
-Inv-loop d f b q₀ at k₀ q k = (k ≤ d) × (length q ≡ length q₀) × (q ≡ put (pairOf d f b) at k q₀)
+Inv-loop d f b q₀ at k₀ q k = (k ≤ d) × (length q ≡ length q₀) × (q ≡ laid (pairOf d f b) at k q₀)
 
 abbrev μ-loop : tie.MeasureT-loop
 μ-loop d f b q₀ at k₀ q k = d - k
@@ -22,7 +22,7 @@ mul-at : tie.Need-mul-at Inv-loop μ-loop
 mul-at c = let s = c .before .before in omega (arith, square-row (s .args .d) (s .args .b) (s .pre .0) (s .pre .1))
 
 loop-holds : tie.Need-loop-holds Inv-loop μ-loop
-loop-holds c = (search needs, search needs, put-none _ _ _)
+loop-holds c = (search needs, search needs, laid-none _ _ _)
 
 mul-at-2 : tie.Need-mul-at-2 Inv-loop μ-loop
 mul-at-2 c = let s = c .before .before .before .before in omega (arith, square-row (s .args .d) (c .before .loop .k) (s .pre .0) (omega arith))
@@ -66,7 +66,7 @@ loop-again c =
     let l = c .before .before .before .loop in (
       search needs,
       simp length-set (l .inv .1),
-      put-store _ _ _ _ _ _ (l .inv .2) (ap₂ (λ x y. x * 4294967296 + y) (c .at2 .ensures .0) (c .before .at .ensures .0)),
+      laid-store _ _ _ _ _ _ (l .inv .2) (ap₂ (λ x y. x * 4294967296 + y) (c .at2 .ensures .0) (c .before .at .ensures .0)),
     )
 
 same-length : tie.Need-same-length Inv-loop μ-loop

@@ -2,14 +2,12 @@
 use Prim.Native.Nat.{_-_, _*_, _≤_}
 use mathlib.Core.Path.{_≡_, ap, _∙_}
 use native.Mathlib.Nat.{le-antisymm, zero-mul}
-use native.Mathlib.Omega.{arith}
 use borrow.Author.Needs.{needs}
 use lib.ListN.{length}
 use Rattle.base.specs.Matrix.{flat}
 use Rattle.base.specs.Fill.{filled}
-use Rattle.base.proofs.Fill.{filled-none}
+use Rattle.base.proofs.Fill.{filled-none, length-laid, laid-row}
 use Rattle.dealing.specs.Pairs.{pairOf}
-use Rattle.dealing.proofs.Put.{length-put, put-row}
 use Rattle.dealing.proofs.pair_rows.Statement.{statement}
 use Rattle.dealing.proofs.pair_rows.Tie as tie
 
@@ -35,7 +33,7 @@ loop-again : tie.Need-loop-again Inv-loop μ-loop
 loop-again c =
     let e = c .before .before .pair-row .ensures in
     let l = c .before .before .before .before .before .loop in
-    (search needs, ap length e ∙ length-put _ _ _ _ ∙ l .inv .1, e ∙ put-row _ (pairOf _ _) _ _ _ (l .inv .2))
+    (search needs, ap length e ∙ length-laid _ _ _ _ ∙ l .inv .1, e ∙ laid-row _ (pairOf _ _) _ _ _ (l .inv .2))
 
 same-length : tie.Need-same-length Inv-loop μ-loop
 same-length c = c .before .loop .inv .1

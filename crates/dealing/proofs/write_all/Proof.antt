@@ -1,5 +1,4 @@
 -- Entries below p are at most 256 where p is at most 257; the one field above is 65521.
-use Prim.Native.Nat.{_*_}
 use native.Mathlib.Omega.{arith}
 use borrow.Author.Needs.{needs}
 use Rattle.dealing.proofs.Pairs.{largest}

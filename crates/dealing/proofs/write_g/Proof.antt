@@ -5,21 +5,21 @@ use native.Mathlib.Nat.{le-antisymm}
 use native.Mathlib.Omega.{arith}
 use borrow.Author.Needs.{needs}
 use lib.ListN.{length, length-set}
+use Rattle.base.specs.Fill.{laid}
+use Rattle.base.proofs.Fill.{laid-none, laid-store}
 use Rattle.dealing.specs.Parts.{entryG}
-use Rattle.dealing.specs.Put.{put}
 use Rattle.dealing.proofs.Parts.{square-row, product-g}
-use Rattle.dealing.proofs.Put.{put-none, put-store}
 use Rattle.dealing.proofs.write_g.Statement.{statement}
 use Rattle.dealing.proofs.write_g.Tie as tie
 
 abbrev Inv-loop : tie.InvT-loop
-Inv-loop p d matrix f i out₀ at b₀ out b = (b ≤ d) × (length out ≡ length out₀) × (out ≡ put (entryG p d matrix f i) at b out₀)
+Inv-loop p d matrix f i out₀ at b₀ out b = (b ≤ d) × (length out ≡ length out₀) × (out ≡ laid (entryG p d matrix f i) at b out₀)
 
 abbrev μ-loop : tie.MeasureT-loop
 μ-loop p d matrix f i out₀ at b₀ out b = d - b
 
 loop-holds : tie.Need-loop-holds Inv-loop μ-loop
-loop-holds c = (search needs, search needs, put-none _ _ _)
+loop-holds c = (search needs, search needs, laid-none _ _ _)
 
 mul-dot-product : tie.Need-mul-dot-product Inv-loop μ-loop
 mul-dot-product c = search needs
@@ -49,7 +49,7 @@ loop-less c = search needs
 loop-again : tie.Need-loop-again Inv-loop μ-loop
 loop-again c =
     let l = c .before .before .loop in
-    (search needs, simp length-set (l .inv .1), put-store _ _ _ _ _ _ (l .inv .2) (c .dot-product .ensures ∙ product-g _ _ _ _ _ _))
+    (search needs, simp length-set (l .inv .1), laid-store _ _ _ _ _ _ (l .inv .2) (c .dot-product .ensures ∙ product-g _ _ _ _ _ _))
 
 same-length : tie.Need-same-length Inv-loop μ-loop
 same-length c = c .before .loop .inv .1

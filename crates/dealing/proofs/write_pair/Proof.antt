@@ -1,14 +1,14 @@
 -- The first b entries of both parts are written; each is a half of the sum of row b of the pairs.
-use Prim.Native.Nat.{_-_, _*_, _/_, _%_, _≤_}
+use Prim.Native.Nat.{_-_, _/_, _%_, _≤_}
 use mathlib.Core.Path.{_≡_, ap, _∙_}
 use native.Mathlib.Nat.{le-antisymm}
 use native.Mathlib.Omega.{arith}
 use borrow.Author.Needs.{needs}
 use lib.ListN.{length, length-set}
 use Rattle.base.proofs.Matrix.{row-fits}
-use Rattle.dealing.specs.Put.{put}
+use Rattle.base.specs.Fill.{laid}
+use Rattle.base.proofs.Fill.{laid-none, laid-store}
 use Rattle.dealing.specs.Pairs.{lowOf, highOf}
-use Rattle.dealing.proofs.Put.{put-none, put-store}
 use Rattle.dealing.proofs.Parts.{square-row}
 use Rattle.dealing.proofs.write_pair.Statement.{statement}
 use Rattle.dealing.proofs.write_pair.Tie as tie
@@ -16,7 +16,7 @@ use Rattle.dealing.proofs.write_pair.Tie as tie
 abbrev Inv-loop : tie.InvT-loop
 Inv-loop p d matrix q i gs₀ hs₀ at b₀ gs hs b =
     (b ≤ d) × (length gs ≡ length gs₀) × (length hs ≡ length hs₀)
-    × (gs ≡ put (lowOf p d matrix q i) at b gs₀) × (hs ≡ put (highOf p d matrix q i) at b hs₀)
+    × (gs ≡ laid (lowOf p d matrix q i) at b gs₀) × (hs ≡ laid (highOf p d matrix q i) at b hs₀)
 
 abbrev μ-loop : tie.MeasureT-loop
 μ-loop p d matrix q i gs₀ hs₀ at b₀ gs hs b = d - b
@@ -25,7 +25,7 @@ mul-at : tie.Need-mul-at Inv-loop μ-loop
 mul-at c = search needs
 
 loop-holds : tie.Need-loop-holds Inv-loop μ-loop
-loop-holds c = (search needs, search needs, search needs, put-none _ _ _, put-none _ _ _)
+loop-holds c = (search needs, search needs, search needs, laid-none _ _ _, laid-none _ _ _)
 
 mul-pair-sum : tie.Need-mul-pair-sum Inv-loop μ-loop
 mul-pair-sum c = let s = c .before .before .before .before .before .before in omega (arith, square-row (s .args .d) (c .before .loop .b) (s .pre .small) (omega arith))
@@ -77,8 +77,8 @@ loop-again c =
       search needs,
       simp length-set (l .inv .1),
       simp length-set (l .inv .2),
-      put-store _ _ _ _ _ _ (l .inv .3) (c .before .residue .ensures ∙ ap (λ x. x % 4294967296 % s .args .p) both),
-      put-store _ _ _ _ _ _ (l .inv .4) (c .residue2 .ensures ∙ ap (λ x. x / 4294967296 % s .args .p) both),
+      laid-store _ _ _ _ _ _ (l .inv .3) (c .before .residue .ensures ∙ ap (λ x. x % 4294967296 % s .args .p) both),
+      laid-store _ _ _ _ _ _ (l .inv .4) (c .residue2 .ensures ∙ ap (λ x. x / 4294967296 % s .args .p) both),
     )
 
 same-length : tie.Need-same-length Inv-loop μ-loop

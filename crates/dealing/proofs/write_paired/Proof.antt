@@ -1,7 +1,5 @@
 -- The array holds the pairs of F, and the halves of their sums are the entries of the parts.
-use Prim.Native.Nat.{_*_}
 use mathlib.Core.Path.{refl, ap, _∙_}
-use native.Mathlib.Omega.{arith}
 use borrow.Author.Needs.{needs}
 use lib.ListN.{length}
 use Rattle.base.proofs.Fill.{length-filled}

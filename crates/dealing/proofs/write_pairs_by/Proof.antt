@@ -8,9 +8,8 @@ use lib.ListN.{length}
 use Rattle.base.specs.Matrix.{flat}
 use Rattle.base.specs.Fill.{filled}
 use Rattle.base.proofs.Matrix.{row-fits}
-use Rattle.base.proofs.Fill.{filled-none}
+use Rattle.base.proofs.Fill.{filled-none, length-laid, laid-row}
 use Rattle.dealing.specs.Pairs.{lowOf, highOf}
-use Rattle.dealing.proofs.Put.{length-put, put-row}
 use Rattle.dealing.proofs.write_pairs_by.Statement.{statement}
 use Rattle.dealing.proofs.write_pairs_by.Tie as tie
 
@@ -50,10 +49,10 @@ loop-again c =
     let e = c .before .before .before .before .write-pair .ensures in
     let l = c .before .before .before .before .before .before .before .before .loop in (
       search needs,
-      ap length (e .0) ∙ length-put _ _ _ _ ∙ l .inv .1,
-      ap length (e .1) ∙ length-put _ _ _ _ ∙ l .inv .2,
-      e .0 ∙ put-row _ (lowOf _ _ _ _) _ _ _ (l .inv .3),
-      e .1 ∙ put-row _ (highOf _ _ _ _) _ _ _ (l .inv .4),
+      ap length (e .0) ∙ length-laid _ _ _ _ ∙ l .inv .1,
+      ap length (e .1) ∙ length-laid _ _ _ _ ∙ l .inv .2,
+      e .0 ∙ laid-row _ (lowOf _ _ _ _) _ _ _ (l .inv .3),
+      e .1 ∙ laid-row _ (highOf _ _ _ _) _ _ _ (l .inv .4),
     )
 
 same-length : tie.Need-same-length Inv-loop μ-loop

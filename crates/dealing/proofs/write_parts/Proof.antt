@@ -8,9 +8,8 @@ use lib.ListN.{length}
 use Rattle.base.specs.Matrix.{flat}
 use Rattle.base.specs.Fill.{filled}
 use Rattle.base.proofs.Matrix.{row-fits}
-use Rattle.base.proofs.Fill.{filled-none}
+use Rattle.base.proofs.Fill.{filled-none, length-laid, laid-row}
 use Rattle.dealing.specs.Parts.{entryG, entryH}
-use Rattle.dealing.proofs.Put.{length-put, put-row}
 use Rattle.dealing.proofs.write_parts.Statement.{statement}
 use Rattle.dealing.proofs.write_parts.Tie as tie
 
@@ -61,10 +60,10 @@ loop-again c =
     let h = c .before .before .write-h .ensures in
     let l = c .before .before .before .before .before .before .before .before .before .loop in (
       search needs,
-      ap length g ∙ length-put _ _ _ _ ∙ l .inv .1,
-      ap length h ∙ length-put _ _ _ _ ∙ l .inv .2,
-      g ∙ put-row _ (entryG _ _ _ _) _ _ _ (l .inv .3),
-      h ∙ put-row _ (entryH _ _ _ _) _ _ _ (l .inv .4),
+      ap length g ∙ length-laid _ _ _ _ ∙ l .inv .1,
+      ap length h ∙ length-laid _ _ _ _ ∙ l .inv .2,
+      g ∙ laid-row _ (entryG _ _ _ _) _ _ _ (l .inv .3),
+      h ∙ laid-row _ (entryH _ _ _ _) _ _ _ (l .inv .4),
     )
 
 same-length : tie.Need-same-length Inv-loop μ-loop

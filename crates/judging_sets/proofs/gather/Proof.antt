@@ -5,8 +5,8 @@ use native.Mathlib.Omega.{arith}
 use borrow.Author.Needs.{needs}
 use lib.ListN.{length, getD}
 use Rattle.base.specs.Matrix.{entry}
-use Rattle.sets.specs.Contracts.{laid}
-use Rattle.sets.proofs.Load.{laid-step, laid-none}
+use Rattle.base.specs.Fill.{laid}
+use Rattle.base.proofs.Fill.{laid-store, laid-none}
 use Rattle.judging_sets.proofs.gather.Statement.{statement}
 use Rattle.judging_sets.proofs.gather.Tie as tie
 
@@ -47,7 +47,9 @@ loop-less : tie.Need-loop-less Inv-loop μ-loop
 loop-less c = search needs
 
 loop-again : tie.Need-loop-again Inv-loop μ-loop
-loop-again c = (search needs, search needs, rw laid-step (cc))
+loop-again c =
+    let x = c .before .before .before .before .before .before .before .args in
+    (search needs, search needs, laid-store _ _ _ _ _ _ (c .before .before .before .loop .inv .2) (ap (λ from. getD (x .m .now) (from + x .c) 0) (c .before .row-start .ensures)))
 
 same-length : tie.Need-same-length Inv-loop μ-loop
 same-length c = search needs

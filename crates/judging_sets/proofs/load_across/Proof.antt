@@ -6,10 +6,10 @@ use native.Mathlib.Omega.{arith}
 use borrow.Author.Needs.{needs}
 use lib.ListN.{length, getD, length-set}
 use Rattle.base.proofs.Matrix.{row-fits}
-use Rattle.base.proofs.Fill.{filled-none}
+use Rattle.base.proofs.Fill.{filled-none, length-laid}
 use Rattle.base.specs.Matrix.{flat, entry}
 use Rattle.base.specs.Fill.{filled}
-use Rattle.sets.proofs.Load.{length-laid, loaded-whole}
+use Rattle.sets.proofs.Load.{loaded-whole}
 use Rattle.judging_sets.specs.Systems.{across}
 use Rattle.judging_sets.proofs.Judge.{across-row}
 use Rattle.judging_sets.proofs.load_across.Statement.{statement}

@@ -6,11 +6,10 @@ use native.Mathlib.Omega.{arith}
 use borrow.Author.Needs.{needs}
 use lib.ListN.{length, getD}
 use Rattle.base.proofs.Matrix.{row-fits}
-use Rattle.base.proofs.Fill.{filled-none}
+use Rattle.base.proofs.Fill.{filled-none, length-laid}
 use Rattle.base.specs.Matrix.{flat}
-use Rattle.base.specs.Fill.{filled}
-use Rattle.sets.specs.Contracts.{laid}
-use Rattle.sets.proofs.Load.{length-laid, loaded-whole}
+use Rattle.base.specs.Fill.{filled, laid}
+use Rattle.sets.proofs.Load.{loaded-whole}
 use Rattle.judging_sets.specs.Systems.{aside}
 use Rattle.judging_sets.proofs.Judge.{aside-row}
 use Rattle.judging_sets.proofs.load_aside.Statement.{statement}

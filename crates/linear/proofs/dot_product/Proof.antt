@@ -1,10 +1,9 @@
 -- The sum so far is the product of the entries passed, at most 65535 * 65535 for each.
-use Prim.Native.Nat.{ℕ, _+_, _-_, _*_, _%_, _≤_, _<_}
-use mathlib.Core.Path.{_≡_, refl, sym, ap, _∙_}
+use Prim.Native.Nat.{ℕ, _-_, _*_, _≤_}
+use mathlib.Core.Path.{_≡_, refl}
 use native.Mathlib.Nat.{mul-le-mul, mul-one}
 use native.Mathlib.Omega.{arith}
 use borrow.Author.Needs.{needs}
-use lib.ListN.{length, getD}
 use Rattle.base.specs.Sum.{sum}
 use Rattle.linear.specs.Dot.{dot, along}
 use Rattle.linear.proofs.Dot.{dot-step}

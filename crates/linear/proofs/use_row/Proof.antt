@@ -3,7 +3,8 @@ use Prim.Native.Nat.{_+_, _*_}
 use native.Mathlib.Omega.{arith}
 use borrow.Author.Needs.{needs}
 use Rattle.base.proofs.Matrix.{row-fits, entry-fits}
-use Rattle.linear.proofs.Flat.{below-scale, used-is}
+use Rattle.rows.proofs.Rows.{below-scale}
+use Rattle.linear.proofs.Flat.{used-is}
 use Rattle.linear.proofs.use_row.Statement.{statement}
 use Rattle.linear.proofs.use_row.Tie as tie
 
@@ -38,7 +39,8 @@ scale-row-requires : tie.Need-scale-row-requires
 scale-row-requires c κs =
     let s = c .before .before .before .before .before .before in
     let x = s .args in
-    omega (arith, row-fits (x .rows) (x .width) (x .k) (omega arith), s .pre .0 .prime .big)
+    let inverse = c .before .before .inverse-by in
+    ((omega (arith, row-fits (x .rows) (x .width) (x .k) (omega arith)), inverse .ensures .below), s .pre .0 .below)
 
 clear-column-requires : tie.Need-clear-column-requires
 clear-column-requires c κs =

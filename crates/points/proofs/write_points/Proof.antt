@@ -1,83 +1,55 @@
--- The first t places are those of the points matrix: place t lies in row t / d and column t % d.
-use Prim.Native.Nat.{_-_, _*_, _/_, _%_, _≤_}
-use mathlib.Core.List.{[]}
-use mathlib.Core.Path.{_≡_, ap, _∙_}
+-- The first i rows are those of the points matrix.
+use Prim.Native.Nat.{_-_, _*_, _≤_}
+use mathlib.Core.Path.{_≡_}
+use native.Mathlib.Nat.{le-antisymm, zero-mul}
 use native.Mathlib.Omega.{arith}
 use borrow.Author.Needs.{needs}
-use lib.ListN.{length, getD, length-set}
-use Rattle.base.specs.Matrix.{flat}
+use lib.ListN.{length}
 use Rattle.base.specs.Fill.{filled}
-use Rattle.base.proofs.Fill.{filled-none, filled-store}
+use Rattle.base.specs.Matrix.{flat}
+use Rattle.base.proofs.Fill.{filled-none}
+use Rattle.base.proofs.Matrix.{row-fits}
 use Rattle.linear.specs.Polynomial.{point}
-use Rattle.points.specs.Grid.{zeros, zeroRows, pointsRows}
-use Rattle.points.proofs.Grid.{rows-at}
-use Rattle.base.proofs.Matrix.{place-at}
 use Rattle.points.proofs.write_points.Statement.{statement}
 use Rattle.points.proofs.write_points.Tie as tie
 
 abbrev Inv-loop : tie.InvT-loop
-Inv-loop p d n matrix₀ rows t₀ matrix t = (t ≤ length matrix₀) × (length matrix ≡ length matrix₀) × (matrix ≡ filled (flat d (point p d)) t matrix₀)
+Inv-loop p d n matrix₀ by i₀ matrix i = (i ≤ n) × (length matrix ≡ length matrix₀) × (matrix ≡ filled (flat d (point p d)) (i * d) matrix₀)
 
 abbrev μ-loop : tie.MeasureT-loop
-μ-loop p d n matrix₀ rows t₀ matrix t = length matrix₀ - t
+μ-loop p d n matrix₀ by i₀ matrix i = n - i
 
-slice-aggregate-points-rows : tie.Need-slice-aggregate-points-rows Inv-loop μ-loop
-slice-aggregate-points-rows c = search needs
-
-points-rows-requires : tie.Need-points-rows-requires Inv-loop μ-loop
-points-rows-requires c κs = search needs
+weights-requires : tie.Need-weights-requires Inv-loop μ-loop
+weights-requires c κs = search needs
 
 loop-holds : tie.Need-loop-holds Inv-loop μ-loop
-loop-holds c = (search needs, search needs, filled-none _ _)
+loop-holds c = (search needs, search needs, rw zero-mul (filled-none _ _))
 
-div-matrix : tie.Need-div-matrix Inv-loop μ-loop
-div-matrix c = let s = c .before .before .before .before .before .before in omega (arith, place-at (s .args .d) (s .args .n) (c .before .loop .t) (omega arith))
+write-row-requires : tie.Need-write-row-requires Inv-loop μ-loop
+write-row-requires c κs =
+    let s = c .before .before .before .before .before .before in
+    let l = c .before .before .before .loop in (
+      s .pre .1 .big,
+      omega arith,
+      omega arith,
+      c .before .before .before .before .weights .ensures,
+      omega (arith, row-fits (s .args .n) (s .args .d) (l .i) (omega arith)),
+    )
 
-rem-matrix : tie.Need-rem-matrix Inv-loop μ-loop
-rem-matrix c = let s = c .before .before .before .before .before .before in omega (arith, place-at (s .args .d) (s .args .n) (c .before .loop .t) (omega arith))
-
-mul-matrix : tie.Need-mul-matrix Inv-loop μ-loop
-mul-matrix c = let s = c .before .before .before .before .before .before in omega (arith, place-at (s .args .d) (s .args .n) (c .before .loop .t) (omega arith))
-
-mul-matrix-2 : tie.Need-mul-matrix-2 Inv-loop μ-loop
-mul-matrix-2 c = let s = c .before .before .before .before .before .before in omega (arith, place-at (s .args .d) (s .args .n) (c .before .loop .t) (omega arith))
-
-index-1-matrix : tie.Need-index-1-matrix Inv-loop μ-loop
-index-1-matrix c = let s = c .before .before .before .before .before .before in omega (arith, place-at (s .args .d) (s .args .n) (c .before .loop .t) (omega arith))
-
-index-2-matrix : tie.Need-index-2-matrix Inv-loop μ-loop
-index-2-matrix c = let s = c .before .before .before .before .before .before in omega (arith, place-at (s .args .d) (s .args .n) (c .before .loop .t) (omega arith))
-
-mul-matrix-3 : tie.Need-mul-matrix-3 Inv-loop μ-loop
-mul-matrix-3 c = search needs
-
-slice-write-matrix : tie.Need-slice-write-matrix Inv-loop μ-loop
-slice-write-matrix c = search needs
-
-add-t : tie.Need-add-t Inv-loop μ-loop
-add-t c = search needs
+add-i : tie.Need-add-i Inv-loop μ-loop
+add-i c = search needs
 
 loop-less : tie.Need-loop-less Inv-loop μ-loop
 loop-less c = search needs
 
 loop-again : tie.Need-loop-again Inv-loop μ-loop
-unfolding zeros zeroRows pointsRows
-loop-again c =
-    let s = c .before .before .before .before .before .before .before in
-    let l = c .before .before .loop in
-    let w = place-at (s .args .d) (s .args .n) (l .t) (omega arith) in
-    let v = ap (λ g. getD (getD g (l .t / s .args .d) []) (l .t % s .args .d) 0) (c .before .before .before .before .points-rows .ensures)
-    ∙ rows-at (s .args .p) (s .args .d) (s .args .n) _ _ (s .pre .0 .0) (s .pre .0 .1) (w .1) (w .2) in
-    (search needs, simp length-set (l .inv .1), filled-store _ _ _ _ _ (l .inv .2) v)
+loop-again c = (search needs, search needs, c .before .before .write-row .ensures .matrix _ (c .before .before .before .before .before .before .loop .inv .2))
 
 same-length : tie.Need-same-length Inv-loop μ-loop
-same-length c = c .before .loop .inv .1
+same-length c = search needs
 
 returns : tie.Need-returns Inv-loop μ-loop
-returns c =
-    let s = c .before .before .before .before .before .before in
-    let e : c .before .loop .t ≡ s .args .n * s .args .d = omega arith in
-    rw e at (c .before .loop .inv .2)
+returns c = rw (le-antisymm (c .before .loop .inv .0) (c .loop-test .left)) at (c .before .loop .inv .2)
 
 pub write-points-spec : {M : Type 1} → statement M
 write-points-spec =
@@ -85,18 +57,10 @@ write-points-spec =
     (tie.spec
     Inv-loop
     μ-loop
-    slice-aggregate-points-rows
-    points-rows-requires
+    weights-requires
     loop-holds
-    div-matrix
-    rem-matrix
-    mul-matrix
-    mul-matrix-2
-    index-1-matrix
-    index-2-matrix
-    mul-matrix-3
-    slice-write-matrix
-    add-t
+    write-row-requires
+    add-i
     loop-less
     loop-again
     same-length

@@ -1,6 +1,4 @@
 -- The five numbers of the match are the five of the definition.
-use mathlib.Core.Path.{sym}
-use Rattle.field.specs.Fields.{isField}
 use Rattle.field.proofs.Fields.{is-field, not-field}
 use Rattle.field.proofs.Field.new.Statement.{statement}
 use Rattle.field.proofs.Field.new.Tie as tie
