@@ -120,7 +120,7 @@ fn seek_row(s: Params, matrix: &[u16], set: u32, q: usize, out: &mut [u16]) -> b
     if linear::unsolved(a, used, d, k + 1, k) < d {
         return false;
     }
-    linear::solution(a, used, d, k + 1, k, out);
+    solving::solution(a, used, d, k + 1, k, out);
     true
 }
 
@@ -145,7 +145,7 @@ fn sweep_entry(
         return unit(q, j);
     }
     let b = (s.e as usize) + q;
-    let x = linear::shown(a, used, rows, width, b, j - l);
+    let x = solving::shown(a, used, rows, width, b, j - l);
     field::negative(s.p, x)
 }
 

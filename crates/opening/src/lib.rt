@@ -45,7 +45,7 @@ fn lacking(a: &[u16], used: &[u16], rows: usize, width: usize, d: usize, l: usiz
 {
     let mut q = 0;
     while q < l {
-        if !linear::fixes(a, used, rows, width, d, q) {
+        if !solving::fixes(a, used, rows, width, d, q) {
             return q;
         }
         q += 1;
@@ -112,7 +112,7 @@ fn open_by(
     if linear::unsolved(a, used, k, d + 1, d) < k {
         return Opened::Inconsistent;
     }
-    linear::solution(a, used, k, d + 1, d, secrets);
+    solving::solution(a, used, k, d + 1, d, secrets);
     Opened::Secrets
 }
 

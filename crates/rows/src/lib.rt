@@ -44,8 +44,8 @@ fn high(x: u16, y: u16) -> u16
     ((x as u32) * (y as u32) / 65536) as u16
 }
 
-// y + h x modulo p, for p up to 257, in 16 bits, of which a vector has eight lanes: the high half of x r is the quotient by p or one less. What is left is
-// below 2 p, and below p it is less than itself less p in 16 bits; the smaller of the two needs no branch.
+// y + h x modulo p, for p up to 257, in 16 bits, of which a vector has eight lanes: the high half of x r is the quotient by p or one less. What is left, v, is
+// below 2 p, and v - p wraps around where v is below p, so that the smaller of the two is the remainder, without a branch.
 fn add_narrow(y: u16, x: u16, h: u16, r: u16, p: u16) -> u16
     requires { ⌜ (y < p) × (x < p) ⌝ }
     requires { ⌜ Reciprocal p h r ⌝ }

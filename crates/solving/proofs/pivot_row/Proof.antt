@@ -10,19 +10,22 @@ use borrow.Author.Tests.{eq-eqb, ne-eqb}
 use lib.Dec.{eqb}
 use Rattle.base.specs.Search.{firstFrom, first}
 use Rattle.base.proofs.Search.{first-stop, first-step, first-end}
 use Rattle.linear.specs.Dot.{at}
 use Rattle.linear.specs.Elimination.{pivotRow}
-use Rattle.linear.proofs.pivot_row.Statement.{statement}
-use Rattle.linear.proofs.pivot_row.Tie as tie
+use Rattle.solving.proofs.pivot_row.Statement.{statement}
+use Rattle.solving.proofs.pivot_row.Tie as tie
 
 abbrev Inv-loop : tie.InvT-loop
-Inv-loop used rows q m i₀ i = (i ≤ rows) × (firstFrom (λ k. eqb (at used k) (suc q)) i (rows - i) ≡ pivotRow rows (at used) q)
+Inv-loop used rows q mark i₀ i = (i ≤ rows) × (firstFrom (λ k. eqb (at used k) (suc q)) i (rows - i) ≡ pivotRow rows (at used) q)
 
 abbrev μ-loop : tie.MeasureT-loop
-μ-loop used rows q m i₀ i = rows - i
+μ-loop used rows q mark i₀ i = rows - i
 
-mark-requires : tie.Need-mark-requires Inv-loop μ-loop
-mark-requires c κs = search needs
+add-mark : tie.Need-add-mark Inv-loop μ-loop
+add-mark c = search needs
+
+cast-mark : tie.Need-cast-mark Inv-loop μ-loop
+cast-mark c = search needs
 
 loop-holds : tie.Need-loop-holds Inv-loop μ-loop
 unfolding pivotRow first
@@ -36,10 +39,10 @@ shared-slice-read-if1 c = search needs
 
 returns : tie.Need-returns Inv-loop μ-loop
 returns c =
-    let x = c .before .before .before .before .before .before .args in
+    let x = c .before .before .before .before .args in
     let l = c .before .before .before .loop in
     let t : ℕ → Bool = λ i. eqb (at (x .used .now) i) (suc (x .q)) in
-    sym (first-stop t (l .i) (x .rows) (omega arith) (eq-eqb _ _ (c .if1 .taken ∙ c .before .before .before .before .mark .ensures ∙ add-one (x .q)))) ∙ l .inv .1
+    sym (first-stop t (l .i) (x .rows) (omega arith) (eq-eqb _ _ (c .if1 .taken ∙ add-one (x .q)))) ∙ l .inv .1
 
 add-i : tie.Need-add-i Inv-loop μ-loop
 add-i c = search needs
@@ -49,19 +52,19 @@ loop-less c = search needs
 
 loop-again : tie.Need-loop-again Inv-loop μ-loop
 loop-again c =
-    let x = c .before .before .before .before .before .before .args in
+    let x = c .before .before .before .before .args in
     let l = c .before .before .before .loop in
     let t : ℕ → Bool = λ i. eqb (at (x .used .now) i) (suc (x .q)) in (
       search needs,
       sym
           (first-step t (l .i) (x .rows) (omega arith)
-          (ne-eqb _ _ (λ e. c .if1 .left (e ∙ sym (c .before .before .before .before .mark .ensures ∙ add-one (x .q))))))
+          (ne-eqb _ _ (λ e. c .if1 .left (e ∙ sym (add-one (x .q))))))
           ∙ l .inv .1,
     )
 
 returns-2 : tie.Need-returns-2 Inv-loop μ-loop
 returns-2 c =
-    let x = c .before .before .before .before .args in
+    let x = c .before .before .args in
     let l = c .before .loop in
     let t : ℕ → Bool = λ i. eqb (at (x .used .now) i) (suc (x .q)) in
     sym (first-end t (l .i) (x .rows) (omega arith)) ∙ l .inv .1
@@ -72,7 +75,8 @@ pivot-row-spec =
     (tie.spec
     Inv-loop
     μ-loop
-    mark-requires
+    add-mark
+    cast-mark
     loop-holds
     mul-if1
     shared-slice-read-if1

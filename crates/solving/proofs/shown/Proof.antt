@@ -4,9 +4,9 @@ use native.Mathlib.Omega.{arith}
 use borrow.Author.Needs.{needs}
 use borrow.Author.Tests.{lt-ltb, le-ltb}
 use Rattle.base.proofs.Matrix.{entry-fits}
 use Rattle.linear.specs.Elimination.{shown, flatShown}
-use Rattle.linear.proofs.shown.Statement.{statement}
-use Rattle.linear.proofs.shown.Tie as tie
+use Rattle.solving.proofs.shown.Statement.{statement}
+use Rattle.solving.proofs.shown.Tie as tie
 
 pivot-row-requires : tie.Need-pivot-row-requires
 pivot-row-requires c κs = search needs

@@ -4,9 +4,9 @@ use native.Mathlib.Omega.{arith}
 use borrow.Author.Needs.{needs}
 use borrow.Author.Tests.{lt-ltb, le-ltb}
 use Rattle.base.proofs.Matrix.{row-fits}
 use Rattle.linear.specs.Elimination.{fixes, flatFixes}
-use Rattle.linear.proofs.fixes.Statement.{statement}
-use Rattle.linear.proofs.fixes.Tie as tie
+use Rattle.solving.proofs.fixes.Statement.{statement}
+use Rattle.solving.proofs.fixes.Tie as tie
 
 pivot-row-requires : tie.Need-pivot-row-requires
 pivot-row-requires c κs = search needs

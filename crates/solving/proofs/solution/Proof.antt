@@ -6,10 +6,10 @@ use borrow.Author.Needs.{needs}
 use lib.ListN.{length}
 use Rattle.base.specs.Fill.{filled}
 use Rattle.base.proofs.Fill.{filled-none, filled-store, filled-whole}
 use Rattle.linear.specs.Elimination.{flatShown}
 use Rattle.linear.specs.Contracts.{buffers}
-use Rattle.linear.proofs.solution.Statement.{statement}
-use Rattle.linear.proofs.solution.Tie as tie
+use Rattle.solving.proofs.solution.Statement.{statement}
+use Rattle.solving.proofs.solution.Tie as tie
 
 abbrev Inv-loop : tie.InvT-loop
 Inv-loop a used rows width b x₀ place₀ x place = (x ≡ filled (flatShown rows width b (buffers a used)) place x₀) × (length x ≡ length x₀) × (place ≤ length x₀)

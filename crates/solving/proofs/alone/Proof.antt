@@ -10,9 +10,9 @@ use borrow.Author.Tests.{eq-eqb, ne-eqb, le-leb, lt-leb}
 use lib.ListN.{getD}
 use Rattle.base.specs.Search.{firstFrom, first}
 use Rattle.base.proofs.Search.{first-stop, first-step, first-end}
 use Rattle.linear.specs.Elimination.{elsewhere, alone}
-use Rattle.linear.proofs.alone.Statement.{statement}
-use Rattle.linear.proofs.alone.Tie as tie
+use Rattle.solving.proofs.alone.Statement.{statement}
+use Rattle.solving.proofs.alone.Tie as tie
 
 abbrev Inv-loop : tie.InvT-loop
 Inv-loop a t pivots q j₀ j = (j ≤ pivots) × (firstFrom (elsewhere q (λ k. getD a (t + k) 0)) j (pivots - j) ≡ first (elsewhere q (λ k. getD a (t + k) 0)) pivots)
