@@ -10,16 +10,14 @@ use lib.ListN.{length, getD}
 use Rattle.base.specs.Sum.{sum}
 use Rattle.base.specs.Fill.{filled}
 use Rattle.base.specs.Matrix.{entry, flat}
-use Rattle.base.proofs.Fill.{tab-ext, getD-filled, flat-at}
-use Rattle.base.proofs.Matrix.{entry-fits}
+use Rattle.base.proofs.Fill.{tab-ext, getD-filled, flat-at, filled-all}
+use Rattle.base.proofs.Matrix.{entry-fits, place-at}
 use Rattle.field.specs.Fields.{isField}
 use Rattle.field.proofs.Fields.{five-elim, field-five}
 use Rattle.linear.specs.Dot.{dot, along}
 use Rattle.linear.proofs.Dot.{dot-ext, dot-same, dot-comm, dot-comb-right}
 use Rattle.dealing.specs.Parts.{entryG, entryH}
 use Rattle.dealing.specs.Pairs.{UpTo, pairOf, lowOf, highOf}
-use Rattle.base.proofs.Fill.{filled-all}
-use Rattle.base.proofs.Matrix.{place-at}
 use Rattle.dealing.proofs.Parts.{square-fits}
 
 -- a product with pairs is a pair of products

@@ -11,8 +11,8 @@ use lib.ListN.{length, getD}
 use Rattle.base.specs.Choice.{pick}
 use Rattle.base.specs.Fill.{tab, filled, laid}
 use Rattle.base.specs.Matrix.{entry, flat}
-use Rattle.base.proofs.Fill.{getD-tab, tab-ext, getD-filled, flat-at, laid-filled, laid-whole}
-use Rattle.base.proofs.Matrix.{row-fits, entry-fits}
+use Rattle.base.proofs.Fill.{getD-tab, tab-ext, getD-filled, flat-at, laid-filled, laid-whole, filled-all}
+use Rattle.base.proofs.Matrix.{row-fits, entry-fits, place-at}
 use Rattle.linear.specs.Dot.{at, dot, along}
 use Rattle.linear.proofs.Dot.{dot-ext, dot-same}
 use Rattle.scheme.specs.Setup.{Setup, dim, row}
@@ -20,8 +20,6 @@ use Rattle.scheme.specs.Dealing.{place, dealtEntry, dealt, partG, partH}
 use Rattle.scheme.proofs.Calls.{DealOk, limits-pos, below-vec}
 use Rattle.dealing.specs.Parts.{entryG, entryH, sized}
 use Rattle.dealing.specs.Pairs.{Under}
-use Rattle.base.proofs.Fill.{filled-all}
-use Rattle.base.proofs.Matrix.{place-at}
 
 -- F and its rows lie in the array
 pub square-fits : (d : ℕ) → d ≤ 16 → d * d ≤ 256
