@@ -8,7 +8,7 @@ ghost use Rattle.base.specs.Rules.{refusalFrom, refusal};
 ghost use Rattle.scheme.specs.Setup.{setupOf};
 ghost use Rattle.scheme.specs.Answers.{paperWritten};
 ghost use Rattle.records.specs.Records.{due, paramsAt, dealingAt, pairAt, verdictAt, shareAt};
-ghost use Rattle.records.specs.Records.{readSetupRules, readSetupCall, readMatrixRules, readMatrixCall, readMatrixLeft};
+ghost use Rattle.records.specs.Records.{dueSetup, readSetupRules, readSetupCall, readMatrixRules, readMatrixCall, readMatrixLeft};
 ghost use Rattle.records.specs.Records.{dueDealing, dealingEntries, readDealingRules, readDealingCall, readDealingLeftG, readDealingLeftH};
 ghost use Rattle.records.specs.Records.{readPairRules, readPairCall, readVerdictRules, readVerdictCall, readShareRules, readShareCall};
 ghost use Rattle.records.specs.Records.{paperSetupRead, paperDealingRead, paperPairRead, paperVerdictRead, paperShareRead};
@@ -34,7 +34,7 @@ fn or_due(standing: u16, s: &[u8], mark: u16, needed: usize) -> u16
 }
 
 // SU
-fn params_at(s: &[u8]) -> Params
+pub fn params_at(s: &[u8]) -> Params
     ensures { λ r. ⌜ r ≡ paramsAt (now (s .entry)) ⌝ }
 {
     let p = words::word(s, 1);
@@ -44,8 +44,9 @@ fn params_at(s: &[u8]) -> Params
     Params { p, l, e, n }
 }
 
-fn read_setup_refusal(s: &[u8]) -> u16
-    ensures { λ r. ⌜ r ≡ refusal (readSetupRules (now (s .entry))) ⌝ }
+// The mark of an SU, its numbers and its length.
+fn setup_due(s: &[u8]) -> u16
+    ensures { λ r. ⌜ r ≡ refusal (dueSetup (now (s .entry))) ⌝ }
 {
     let a = or_due(0, s, 0x5553, 10);
     if a != 0 {
@@ -54,6 +55,26 @@ fn read_setup_refusal(s: &[u8]) -> u16
     let x = params_at(s);
     let b = scheme::limits_refusal(x);
     base::or_when(b, 3, s.len() < 10 + 2 * scheme::matrix_len(x))
+}
+
+fn read_matrix_refusal(s: &[u8], room: usize) -> u16
+    ensures { λ r. ⌜ r ≡ refusal (readMatrixRules (now (s .entry)) room) ⌝ }
+{
+    let a = setup_due(s);
+    if a != 0 {
+        return a;
+    }
+    let x = params_at(s);
+    let len = scheme::matrix_len(x);
+    let b = scheme::or_size(0, room, len);
+    base::or_when(b, 4, !words::words_below(s, 5, len, x.p))
+}
+
+// What refuses an SU: that of its matrix read into one of the length needed.
+pub fn read_setup_refusal(s: &[u8]) -> u16
+    ensures { λ r. ⌜ r ≡ refusal (readSetupRules (now (s .entry))) ⌝ }
+{
+    read_matrix_refusal(s, scheme::matrix_len(params_at(s)))
 }
 
 // The four numbers of an SU.
@@ -65,19 +86,6 @@ pub fn read_setup_head(s: &[u8]) -> SetupRead
         return SetupRead::Refused(refusal);
     }
     SetupRead::Is(params_at(s))
-}
-
-fn read_matrix_refusal(s: &[u8], room: usize) -> u16
-    ensures { λ r. ⌜ r ≡ refusal (readMatrixRules (now (s .entry)) room) ⌝ }
-{
-    let a = read_setup_refusal(s);
-    if a != 0 {
-        return a;
-    }
-    let x = params_at(s);
-    let len = scheme::matrix_len(x);
-    let b = scheme::or_size(0, room, len);
-    base::or_when(b, 4, !words::words_below(s, 5, len, x.p))
 }
 
 // The matrix of an SU, into a lent one of n * d entries.

@@ -1,6 +1,6 @@
 -- What an accepted call says of its inputs: a table is passed only where none of its rules holds.
 -- positive: the numbers of a table are above 0, in whatever order they stand
-use mathlib.Core.Path.{_≡_, refl, ap, _∙_}
+use mathlib.Core.Path.{_≡_, refl, sym, ap, _∙_}
 use mathlib.Core.Bool.{Bool, true, false, not, _&&_}
 use mathlib.Core.List.{List, [], _∷_, _++_}
 use Prim.Native.Nat.{ℕ, zero, suc, _+_, _*_, _≤_}
@@ -9,18 +9,21 @@ use native.Mathlib.Nat.{mul-le-mul}
 use lib.Dec.{eqb, ltb, T}
 use lib.ListN.{length}
 use borrow.Author.Tests.{eqb-true, eq-eqb, ltb-false, not-false}
-use Rattle.base.specs.Rules.{Rule, _when_, refusalFrom, refusal, Rising, Clear, Answer}
+use Rattle.base.specs.Rules.{Rule, _when_, orWhen, refusalFrom, refusal, Rising, Clear, Answer}
+use Rattle.base.specs.Matrix.{allBelow}
+use Rattle.base.proofs.Matrix.{below-by}
 use Rattle.base.proofs.Choice.{T-right}
 use Rattle.field.specs.Fields.{isField}
-use Rattle.scheme.specs.Setup.{Setup, dim, Limits}
+use Rattle.scheme.specs.Setup.{Setup, dim, Limits, IsSetup}
 use Rattle.scheme.specs.Answers.{answerBy, leftBy}
-use Rattle.scheme.specs.Calls.{limits}
-use Rattle.scheme.proofs.Calls.{inside, size-is}
+use Rattle.scheme.specs.Calls.{limits, elements}
+use Rattle.scheme.proofs.Calls.{inside, size-is, limits-pos}
+use Rattle.words.proofs.Words.{length-words}
 use Rattle.records.specs.declared.DealingRecord.{DealingRecord}
 use Rattle.records.specs.declared.PairRecord.{PairRecord}
 use Rattle.records.specs.declared.VerdictRecord.{VerdictRecord}
 use Rattle.records.specs.declared.ShareRecord.{ShareRecord}
-use Rattle.records.specs.Records.{room, setupSize, dealingSize, setupAt, writeSetupRules, readSetupRules, readMatrixRules, writeDealingRules, dueDealing, readDealingRules, writePairRules, writeVerdictRules, writeShareRules}
+use Rattle.records.specs.Records.{room, setupSize, dealingSize, setupAt, writeSetupRules, dueSetup, readSetupRules, readMatrixRules, writeDealingRules, dueDealing, readDealingRules, writePairRules, writeVerdictRules, writeShareRules}
 
 -- a number other than 0 stays to the end of a table
 pub stays : (r : ℕ) (l : List Rule) → (r ≡ 0 → ⊥) → r ≡ refusalFrom r l
@@ -49,6 +52,14 @@ clear-right ((k when b) ∷ l) m c = clear-right l m (c .1)
 pub clear-both : (l m : List Rule) → Clear l → Clear m → Clear (l ++ m)
 clear-both [] m c d = d
 clear-both ((k when b) ∷ l) m c d = (c .0, clear-both l m (c .1) d)
+
+pub joined : (r : ℕ) (l m : List Rule) → refusalFrom r (l ++ m) ≡ refusalFrom (refusalFrom r l) m
+joined r [] m = refl
+joined r ((k when b) ∷ l) m = joined (orWhen r k b) l m
+
+or-false : (r k : ℕ) → orWhen r k false ≡ r
+or-false zero k = refl
+or-false (suc r) k = refl
 
 -- a call that was not refused
 pub accepted : (r : ℕ) (a : Answer) → r ≡ 0 → a ≡ answerBy r a
@@ -90,11 +101,31 @@ setup-room S k e =
     let r = passed (writeSetupRules S k) tt e .1 .1 .1 .1 in
     (size-is (S .M) _ (r .0), room-is k _ (r .1 .0))
 
-pub setup-limits : (s : List ℕ) → refusal (readSetupRules s) ≡ 0 → Limits (setupAt s)
-setup-limits s e = limits-are (setupAt s) (let r = passed (readSetupRules s) tt e .1 .1 .1 in (r .0, (r .1 .0, (r .1 .1 .0, (r .1 .1 .1 .0, tt)))))
+pub setup-whole : (s : List ℕ) → refusal (dueSetup s) ≡ 0 → setupSize (setupAt s) ≤ length s
+setup-whole s e = ltb-false (length s) (setupSize (setupAt s)) (passed (dueSetup s) tt e .1 .1 .1 .1 .1 .1 .1 .0)
 
-pub setup-whole : (s : List ℕ) → refusal (readSetupRules s) ≡ 0 → setupSize (setupAt s) ≤ length s
-setup-whole s e = ltb-false (length s) (setupSize (setupAt s)) (passed (readSetupRules s) tt e .1 .1 .1 .1 .1 .1 .1 .0)
+-- an SU that is not refused is a setup, and it stands there whole
+pub setup-read : (s : List ℕ) → refusal (readSetupRules s) ≡ 0 → IsSetup (setupAt s) × (setupSize (setupAt s) ≤ length s)
+setup-read s e =
+    let S = setupAt s in
+    let r = passed (readSetupRules s) tt e .1 .1 .1 in
+    let L : Limits S = limits-are S (r .0, (r .1 .0, (r .1 .1 .0, (r .1 .1 .1 .0, tt)))) in
+    let q = r .1 .1 .1 .1 in (
+      record {
+        limits = L;
+        matrix = record { size = length-words s 5 (S .n * dim S); small = λ k l. below-by (S .p) (S .M) (limits-pos S L) (not-false (allBelow (S .p) (S .M)) (q .1 .0)) k };
+      },
+      ltb-false (length s) (setupSize S) (q .0),
+    )
+
+-- with a lent matrix of the length needed both readers of SU have the same refusal
+pub matrix-as-setup : (s : List ℕ) (k : ℕ) → k ≡ setupAt s .n * dim (setupAt s) → refusal (readMatrixRules s k) ≡ refusal (readSetupRules s)
+matrix-as-setup s k e =
+    let last = elements (setupAt s .p) (setupAt s .M) ∷ [] in
+    joined 0 (dueSetup s) (room k (setupAt s .n * dim (setupAt s)) ∷ last)
+    ∙ ap (λ (t : Bool). refusalFrom (orWhen (refusal (dueSetup s)) 3 t) last) (room-clear k _ e)
+    ∙ ap (λ (r : ℕ). refusalFrom r last) (or-false (refusal (dueSetup s)) 3)
+    ∙ sym (joined 0 (dueSetup s) last)
 
 pub matrix-room : (s : List ℕ) (k : ℕ) → refusal (readMatrixRules s k) ≡ 0
     → (k ≡ setupAt s .n * dim (setupAt s)) × (setupSize (setupAt s) ≤ length s)

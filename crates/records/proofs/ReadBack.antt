@@ -1,7 +1,7 @@
 -- Every record written reads back as itself, wherever it stands in a file: its words are found again, so that no rule of its reader's table holds.
 -- inFile: the part of a file from a record's first byte on, whatever stands before and after the record
 use mathlib.Core.Path.{_≡_, refl, sym, ap, subst, _∙_}
-use mathlib.Core.Bool.{not}
+use mathlib.Core.Bool.{false, not}
 use mathlib.Core.List.{List, [], _∷_, _++_, append-nil}
 use Prim.Native.Nat.{ℕ, suc, _+_, _*_, _≤_}
 use native.Mathlib.Omega.{arith}
@@ -10,6 +10,7 @@ use lib.ListN.{length, drop, length-append}
 use lib.Seq.{drop-append-seam}
 use borrow.Author.Tests.{eq-eqb, le-ltb}
 use Rattle.base.specs.Rules.{Rule, _when_, refusal, Clear, given}
+use Rattle.base.specs.Matrix.{allBelow}
 use Rattle.base.proofs.Rules.{none-applies}
 use Rattle.scheme.specs.Setup.{Setup, dim}
 use Rattle.scheme.specs.Answers.{answerBy, leftBy}
@@ -28,7 +29,7 @@ use Rattle.records.specs.Records.{writeDealingRules, writeDealingCall, w
 use Rattle.records.specs.Records.{writePairCall, writePairLeft, pairValues, readPairCall}
 use Rattle.records.specs.Records.{writeVerdictCall, writeVerdictLeft, verdictValues, readVerdictCall}
 use Rattle.records.specs.Records.{writeShareCall, writeShareLeft, shareValues, readShareCall}
-use Rattle.records.proofs.Calls.{positive, passed, clear-left, clear-right, clear-both, accepted, written, setup-room, dealing-room, room-clear}
+use Rattle.records.proofs.Calls.{positive, passed, clear-left, clear-right, clear-both, accepted, written, setup-room, dealing-room, room-clear, matrix-as-setup}
 
 abbrev pub inFile : List ℕ → List ℕ → List ℕ → List ℕ
 inFile before part rest = drop (length before) (before ++ (part ++ rest))
@@ -100,7 +101,7 @@ share-back S x out before rest e =
     plain-back markSH 10 shareValues shareAt shareFaults shareValues S x out before rest (share-at x rest) (omega arith) tt e
 
 -- SU
-setup-at : (S : Setup) (rest : List ℕ) → length (S .M) ≡ S .n * dim S → setupAt (bytes (setupWords S) ++ rest) ≡ S
+pub setup-at : (S : Setup) (rest : List ℕ) → length (S .M) ≡ S .n * dim S → setupAt (bytes (setupWords S) ++ rest) ≡ S
 setup-at S rest e =
     let w = word-of (setupWords S) rest in
     let m : wordsAt (bytes (setupWords S) ++ rest) 5 (S .n * dim S) ≡ S .M =
@@ -113,25 +114,30 @@ pub record SetupReads (S : Setup) (s : List ℕ) : Type 0 where
   pub matrix : (m : List ℕ) → length m ≡ S .n * dim S → readMatrixCall s m ≡ given []
   pub entries : (m : List ℕ) → length m ≡ S .n * dim S → readMatrixLeft s m ≡ S .M
 
-setup-read : (S : Setup) (rest : List ℕ) (k : ℕ) → refusal (writeSetupRules S k) ≡ 0 → SetupReads S (bytes (setupWords S) ++ rest)
-setup-read S rest k z =
+-- SU's bytes pass its readers where S is in order
+pub setup-fair : (S : Setup) (rest : List ℕ) → Clear (limits S) → length (S .M) ≡ S .n * dim S → not (allBelow (S .p) (S .M)) ≡ false
+    → refusal (readSetupRules (bytes (setupWords S) ++ rest)) ≡ 0
+setup-fair S rest c m b =
+    let s : List ℕ = bytes (setupWords S) ++ rest in
+    let n : setupSize S ≤ length s = omega (arith, length-append (bytes (setupWords S)) rest, length-bytes (setupWords S), m) in
+    let whole : List Rule = (3 when ltb (length s) (setupSize S)) ∷ [] in
+    let last : List Rule = elements (S .p) (S .M) ∷ [] in
+    ap (λ (T : Setup). refusal ((due markSU 10 s ++ limits T ++ (3 when ltb (length s) (setupSize T)) ∷ []) ++ elements (T .p) (T .M) ∷ [])) (setup-at S rest m)
+    ∙ none-applies ((due markSU 10 s ++ limits S ++ whole) ++ last)
+    (clear-both (due markSU 10 s ++ limits S ++ whole) last
+    (clear-both (due markSU 10 s) (limits S ++ whole) (due-clear markSU (S .p ∷ S .l ∷ S .e ∷ S .n ∷ S .M) rest 10 (omega arith)) (clear-both (limits S) whole c (le-ltb (length s) (setupSize S) n, tt)))
+    (b, tt))
+
+setup-reads : (S : Setup) (rest : List ℕ) (k : ℕ) → refusal (writeSetupRules S k) ≡ 0 → SetupReads S (bytes (setupWords S) ++ rest)
+setup-reads S rest k z =
     let s : List ℕ = bytes (setupWords S) ++ rest in
     let c = passed (writeSetupRules S k) tt z in
     let r = setup-room S k z in
     let f = setup-at S rest (r .0) in
-    let n : setupSize S ≤ length s = omega (arith, length-append (bytes (setupWords S)) rest, length-bytes (setupWords S), r .0) in
-    let h : Clear (due markSU 10 s ++ limits S ++ (3 when ltb (length s) (setupSize S)) ∷ []) =
-    clear-both (due markSU 10 s) (limits S ++ (3 when ltb (length s) (setupSize S)) ∷ [])
-    (due-clear markSU (S .p ∷ S .l ∷ S .e ∷ S .n ∷ S .M) rest 10 (omega arith))
-    (clear-both (limits S) ((3 when ltb (length s) (setupSize S)) ∷ []) (clear-left (limits S) (size (S .M) (S .n * dim S) ∷ room k (setupSize S) ∷ elements (S .p) (S .M) ∷ []) c) (le-ltb (length s) (setupSize S) n, tt)) in
     let o : refusal (readSetupRules s) ≡ 0 =
-    ap (λ (T : Setup). refusal (due markSU 10 s ++ limits T ++ (3 when ltb (length s) (setupSize T)) ∷ [])) f
-    ∙ none-applies (due markSU 10 s ++ limits S ++ (3 when ltb (length s) (setupSize S)) ∷ []) h in
+    setup-fair S rest (clear-left (limits S) (size (S .M) (S .n * dim S) ∷ room k (setupSize S) ∷ elements (S .p) (S .M) ∷ []) c) (r .0) (c .1 .1 .1 .1 .1 .1 .0) in
     let q : (m : List ℕ) → length m ≡ S .n * dim S → refusal (readMatrixRules s (length m)) ≡ 0 = λ m e.
-    ap (λ (T : Setup). refusal ((due markSU 10 s ++ limits T ++ (3 when ltb (length s) (setupSize T)) ∷ []) ++ room (length m) (T .n * dim T) ∷ elements (T .p) (T .M) ∷ [])) f
-    ∙ none-applies ((due markSU 10 s ++ limits S ++ (3 when ltb (length s) (setupSize S)) ∷ []) ++ room (length m) (S .n * dim S) ∷ elements (S .p) (S .M) ∷ [])
-    (clear-both (due markSU 10 s ++ limits S ++ (3 when ltb (length s) (setupSize S)) ∷ []) (room (length m) (S .n * dim S) ∷ elements (S .p) (S .M) ∷ []) h
-    (room-clear (length m) _ e, (c .1 .1 .1 .1 .1 .1 .0, tt))) in
+    matrix-as-setup s (length m) (e ∙ ap (λ (T : Setup). T .n * dim T) (sym f)) ∙ o in
     record {
       numbers = sym (accepted (refusal (readSetupRules s)) (given (wordAt s 1 ∷ wordAt s 2 ∷ wordAt s 3 ∷ wordAt s 4 ∷ [])) o) ∙ ap (λ (T : Setup). given (T .p ∷ T .l ∷ T .e ∷ T .n ∷ [])) f;
       matrix = λ m e. sym (accepted (refusal (readMatrixRules s (length m))) (given []) (q m e));
@@ -143,10 +149,10 @@ setup-back S out before rest e =
     let z = not-refused _ (given []) [] e .0 in
     let w : inFile before (writeSetupLeft S out) rest ≡ bytes (setupWords S) ++ rest =
     drop-append-seam before (writeSetupLeft S out ++ rest) ∙ ap (λ l. l ++ rest) (sym (written _ (bytes (setupWords S)) out _ z refl)) in
-    subst (λ (s : List ℕ). SetupReads S s) (sym w) (setup-read S rest (length out) z)
+    subst (λ (s : List ℕ). SetupReads S s) (sym w) (setup-reads S rest (length out) z)
 
 -- DL
-dealing-at : (x : DealingRecord) (g h rest : List ℕ) → dealingAt (bytes (dealingWords x g h) ++ rest) ≡ x
+pub dealing-at : (x : DealingRecord) (g h rest : List ℕ) → dealingAt (bytes (dealingWords x g h) ++ rest) ≡ x
 dealing-at x g h rest =
     let w = word-of (dealingWords x g h) rest in
     rw (w 1 (omega arith), w 2 (omega arith))
@@ -157,33 +163,43 @@ pub record DealingReads (S : Setup) (x : DealingRecord) (g h s : List ℕ) : Typ
   pub row : (a b : List ℕ) → length a ≡ dim S → length b ≡ dim S → readDealingLeftG S s a b ≡ g
   pub column : (a b : List ℕ) → length a ≡ dim S → length b ≡ dim S → readDealingLeftH S s a b ≡ h
 
-dealing-read : (S : Setup) (x : DealingRecord) (g h rest : List ℕ) (k : ℕ) → refusal (writeDealingRules S x g h k) ≡ 0
+-- DL's bytes pass its reader where x, g and h are in order, and g and h come back
+module _ (S : Setup) (x : DealingRecord) (g h rest : List ℕ) (i : length g ≡ dim S) (j : length h ≡ dim S) where
+  pub row-at : dealingG S (bytes (dealingWords x g h) ++ rest) ≡ g
+  row-at = words-of (markDL ∷ x .dealing ∷ x .holder ∷ []) g h rest 3 (dim S) refl i
+
+  pub column-at : dealingH S (bytes (dealingWords x g h) ++ rest) ≡ h
+  column-at = rw (append-nil h) at (words-of (markDL ∷ x .dealing ∷ x .holder ∷ g) h [] rest (3 + dim S) (dim S) (omega (arith, i)) j)
+
+  pub dealing-fair : Clear (limits S) → Clear (elements (S .p) g ∷ elements (S .p) h ∷ dealingFaults S x)
+      → (a b : ℕ) → a ≡ dim S → b ≡ dim S → refusal (readDealingRules S (bytes (dealingWords x g h) ++ rest) a b) ≡ 0
+  dealing-fair c own a b k m =
+      let s : List ℕ = bytes (dealingWords x g h) ++ rest in
+      let before : List Rule = lentDealing S a b ++ due markDL (dealingSize S) s in
+      ap (λ (y : List ℕ). refusal (before ++ elements (S .p) y ∷ elements (S .p) (dealingH S s) ∷ dealingFaults S (dealingAt s))) row-at
+      ∙ ap (λ (y : List ℕ). refusal (before ++ elements (S .p) g ∷ elements (S .p) y ∷ dealingFaults S (dealingAt s))) column-at
+      ∙ ap (λ (y : DealingRecord). refusal (before ++ elements (S .p) g ∷ elements (S .p) h ∷ dealingFaults S y)) (dealing-at x g h rest)
+      ∙ none-applies (before ++ elements (S .p) g ∷ elements (S .p) h ∷ dealingFaults S x)
+      (clear-both before (elements (S .p) g ∷ elements (S .p) h ∷ dealingFaults S x)
+      (clear-both (lentDealing S a b) (due markDL (dealingSize S) s)
+      (clear-both (limits S) (room a (dim S) ∷ room b (dim S) ∷ []) c (room-clear a (dim S) k, (room-clear b (dim S) m, tt)))
+      (due-clear markDL (x .dealing ∷ x .holder ∷ g ++ h) rest (dealingSize S) (omega (arith, length-append g h, i, j))))
+      own)
+
+dealing-reads : (S : Setup) (x : DealingRecord) (g h rest : List ℕ) (k : ℕ) → refusal (writeDealingRules S x g h k) ≡ 0
     → DealingReads S x g h (bytes (dealingWords x g h) ++ rest)
-dealing-read S x g h rest k z =
+dealing-reads S x g h rest k z =
     let s : List ℕ = bytes (dealingWords x g h) ++ rest in
     let c = passed (writeDealingRules S x g h k) tt z in
     let r = dealing-room S x g h k z in
-    let f = dealing-at x g h rest in
-    let u : dealingG S s ≡ g = words-of (markDL ∷ x .dealing ∷ x .holder ∷ []) g h rest 3 (dim S) refl (r .0) in
-    let v : dealingH S s ≡ h =
-    rw (append-nil h) at (words-of (markDL ∷ x .dealing ∷ x .holder ∷ g) h [] rest (3 + dim S) (dim S) (omega (arith, r .0)) (r .1)) in
-    let own = c .1 .1 .1 .1 .1 .1 .1 in
     let q : (a b : List ℕ) → length a ≡ dim S → length b ≡ dim S → refusal (readDealingRules S s (length a) (length b)) ≡ 0 = λ a b i j.
-    ap (λ (y : List ℕ). refusal (lentDealing S (length a) (length b) ++ due markDL (dealingSize S) s ++ elements (S .p) y ∷ elements (S .p) (dealingH S s) ∷ dealingFaults S (dealingAt s))) u
-    ∙ ap (λ (y : List ℕ). refusal (lentDealing S (length a) (length b) ++ due markDL (dealingSize S) s ++ elements (S .p) g ∷ elements (S .p) y ∷ dealingFaults S (dealingAt s))) v
-    ∙ ap (λ (y : DealingRecord). refusal (lentDealing S (length a) (length b) ++ due markDL (dealingSize S) s ++ elements (S .p) g ∷ elements (S .p) h ∷ dealingFaults S y)) f
-    ∙ none-applies (lentDealing S (length a) (length b) ++ due markDL (dealingSize S) s ++ elements (S .p) g ∷ elements (S .p) h ∷ dealingFaults S x)
-    (clear-both (lentDealing S (length a) (length b)) (due markDL (dealingSize S) s ++ elements (S .p) g ∷ elements (S .p) h ∷ dealingFaults S x)
-    (clear-both (limits S) (room (length a) (dim S) ∷ room (length b) (dim S) ∷ [])
+    dealing-fair S x g h rest (r .0) (r .1)
     (clear-left (limits S) (size g (dim S) ∷ size h (dim S) ∷ room k (dealingSize S) ∷ elements (S .p) g ∷ elements (S .p) h ∷ dealingFaults S x) c)
-    (room-clear (length a) (dim S) i, (room-clear (length b) (dim S) j, tt)))
-    (clear-both (due markDL (dealingSize S) s) (elements (S .p) g ∷ elements (S .p) h ∷ dealingFaults S x)
-    (due-clear markDL (x .dealing ∷ x .holder ∷ g ++ h) rest (dealingSize S) (omega (arith, length-append g h, r .0, r .1)))
-    own)) in
+    (c .1 .1 .1 .1 .1 .1 .1) (length a) (length b) i j in
     record {
-      numbers = λ a b i j. sym (accepted (refusal (readDealingRules S s (length a) (length b))) (given (wordAt s 1 ∷ wordAt s 2 ∷ [])) (q a b i j)) ∙ ap (λ (y : DealingRecord). given (y .dealing ∷ y .holder ∷ [])) f;
-      row = λ a b i j. sym (written (refusal (readDealingRules S s (length a) (length b))) (dealingG S s) a (dealingG S s) (q a b i j) refl) ∙ u;
-      column = λ a b i j. sym (written (refusal (readDealingRules S s (length a) (length b))) (dealingH S s) b (dealingH S s) (q a b i j) refl) ∙ v;
+      numbers = λ a b i j. sym (accepted (refusal (readDealingRules S s (length a) (length b))) (given (wordAt s 1 ∷ wordAt s 2 ∷ [])) (q a b i j)) ∙ ap (λ (y : DealingRecord). given (y .dealing ∷ y .holder ∷ [])) (dealing-at x g h rest);
+      row = λ a b i j. sym (written (refusal (readDealingRules S s (length a) (length b))) (dealingG S s) a (dealingG S s) (q a b i j) refl) ∙ row-at S x g h rest (r .0) (r .1);
+      column = λ a b i j. sym (written (refusal (readDealingRules S s (length a) (length b))) (dealingH S s) b (dealingH S s) (q a b i j) refl) ∙ column-at S x g h rest (r .0) (r .1);
     }
 
 pub dealing-back : (S : Setup) (x : DealingRecord) (g h out before rest : List ℕ) → writeDealingCall S x g h out ≡ given []
@@ -192,4 +208,4 @@ dealing-back S x g h out before rest e =
     let z = not-refused _ (given []) [] e .0 in
     let w : inFile before (writeDealingLeft S x g h out) rest ≡ bytes (dealingWords x g h) ++ rest =
     drop-append-seam before (writeDealingLeft S x g h out ++ rest) ∙ ap (λ l. l ++ rest) (sym (written _ (bytes (dealingWords x g h)) out _ z refl)) in
-    subst (λ (s : List ℕ). DealingReads S x g h s) (sym w) (dealing-read S x g h rest (length out) z)
+    subst (λ (s : List ℕ). DealingReads S x g h s) (sym w) (dealing-reads S x g h rest (length out) z)

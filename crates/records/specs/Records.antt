@@ -11,6 +11,7 @@
 -- dealingFaults .. shareFaults: the refusals that a record's own fields give, whether it is written or read
 -- writeXRules, writeXCall, writeXLeft: the table, the answer and the buffer of the call that writes record X
 -- readXRules, readXCall, readXLeft: the same of the call that reads it; readMatrix is the second reader of SU
+-- dueSetup: the rules of SU up to its length
 -- lentDealing, dueDealing, dealingEntries: the rules of what is lent with a DL; after them those of its mark and length; those of its g and h
 -- pairValues .. shareValues: the fields as the values of an answer
 -- paperSetupRead .. paperShareRead: document 01's number and values for each case of a reader's answer
@@ -151,9 +152,12 @@ writeSetupCall S out = answerBy (refusal (writeSetupRules S (length out))) (give
 abbrev pub writeSetupLeft : Setup → List ℕ → List ℕ
 writeSetupLeft S out = leftBy (refusal (writeSetupRules S (length out))) (bytes (setupWords S)) out
 
--- READ SU, its four numbers. "SU checks 1 and 2 after its first ten bytes, then its length"
+-- READ SU, its four numbers. "SU checks 1 and 2 after its first ten bytes, then its length"; its entries come last
+abbrev pub dueSetup : List ℕ → List Rule
+dueSetup s = due markSU 10 s ++ limits (setupAt s) ++ (3 when ltb (length s) (setupSize (setupAt s))) ∷ []
+
 abbrev pub readSetupRules : List ℕ → List Rule
-readSetupRules s = due markSU 10 s ++ limits (setupAt s) ++ (3 when ltb (length s) (setupSize (setupAt s))) ∷ []
+readSetupRules s = dueSetup s ++ elements (setupAt s .p) (setupAt s .M) ∷ []
 
 abbrev pub readSetupCall : List ℕ → Answer
 readSetupCall s = answerBy (refusal (readSetupRules s)) (given (wordAt s 1 ∷ wordAt s 2 ∷ wordAt s 3 ∷ wordAt s 4 ∷ []))
@@ -161,7 +165,7 @@ readSetupCall s = answerBy (refusal (readSetupRules s)) (given (wordAt s 1 ∷ w
 -- READ SU, its matrix, into a lent one
 abbrev pub readMatrixRules : List ℕ → ℕ → List Rule
 readMatrixRules s k =
-    readSetupRules s ++ room k (setupAt s .n * dim (setupAt s)) ∷ elements (setupAt s .p) (setupAt s .M) ∷ []
+    dueSetup s ++ room k (setupAt s .n * dim (setupAt s)) ∷ elements (setupAt s .p) (setupAt s .M) ∷ []
 
 abbrev pub readMatrixCall : List ℕ → List ℕ → Answer
 readMatrixCall s m = answerBy (refusal (readMatrixRules s (length m))) (given [])

@@ -13,19 +13,19 @@ use Rattle.scheme.specs.Setup.{dim}
 use Rattle.scheme.specs.Calls.{elements}
 use Rattle.scheme.proofs.Calls.{refusal-after}
 use Rattle.words.specs.Words.{wordsAt}
-use Rattle.records.specs.Records.{room, setupAt, readSetupRules}
+use Rattle.records.specs.Records.{room, setupAt, dueSetup}
 use Rattle.records.proofs.Calls.{stays, passed, setup-whole}
 use Rattle.reading.proofs.read_matrix_refusal.Statement.{statement}
 use Rattle.reading.proofs.read_matrix_refusal.Tie as tie
 
-read-setup-refusal-requires : tie.Need-read-setup-refusal-requires
-read-setup-refusal-requires c κs = search needs
+setup-due-requires : tie.Need-setup-due-requires
+setup-due-requires c κs = search needs
 
 returns : tie.Need-returns
 returns c =
-    let e = c .before .read-setup-refusal .ensures in
+    let e = c .before .setup-due .ensures in
     let s = c .before .before .before .args .s .now in
-    e ∙ stays (refusal (readSetupRules s)) (room (c .before .before .before .args .room) (setupAt s .n * dim (setupAt s)) ∷ elements (setupAt s .p) (setupAt s .M) ∷ []) (λ z. c .if1 .taken (e ∙ z))
+    e ∙ stays (refusal (dueSetup s)) (room (c .before .before .before .args .room) (setupAt s .n * dim (setupAt s)) ∷ elements (setupAt s .p) (setupAt s .M) ∷ []) (λ z. c .if1 .taken (e ∙ z))
 
 params-at-requires : tie.Need-params-at-requires
 params-at-requires c κs = search needs
@@ -39,7 +39,7 @@ or-size-requires c κs = search needs
 words-below-requires : tie.Need-words-below-requires
 words-below-requires c κs =
     let s = c .before .before .before .before .before .before .args .s .now in
-    let e = sym (c .before .before .before .before .read-setup-refusal .ensures) ∙ c .before .before .before .if1 .left in
+    let e = sym (c .before .before .before .before .setup-due .ensures) ∙ c .before .before .before .if1 .left in
     let x = c .before .before .params-at .ensures in
     omega (arith, c .before .matrix-len .ensures ∙ ap (λ (y : Params). y .n * (y .l + y .e)) x, setup-whole s e)
 
@@ -50,20 +50,20 @@ returns-2 : tie.Need-returns-2
 returns-2 c =
     let s = c .before .before .before .before .before .before .before .before .args .s .now in
     let k = c .before .before .before .before .before .before .before .before .args .room in
-    let e = sym (c .before .before .before .before .before .before .read-setup-refusal .ensures) ∙ c .before .before .before .before .before .if1 .left in
+    let e = sym (c .before .before .before .before .before .before .setup-due .ensures) ∙ c .before .before .before .before .before .if1 .left in
     let x = c .before .before .before .before .params-at in
     c .or-when .ensures
     ∙ ap (λ t. orWhen (c .before .before .or-size .result) 4 (not t)) (c .before .words-below .ensures)
     ∙ ap (λ b. orWhen b 4 (not (allBelow (x .result .p) (wordsAt s 5 (c .before .before .before .matrix-len .result))))) (c .before .before .or-size .ensures)
     ∙ ap (λ l. orWhen (orWhen 0 3 (not (eqb k l))) 4 (not (allBelow (x .result .p) (wordsAt s 5 l)))) (c .before .before .before .matrix-len .ensures)
     ∙ ap (λ (y : Params). orWhen (orWhen 0 3 (not (eqb k (y .n * (y .l + y .e))))) 4 (not (allBelow (y .p) (wordsAt s 5 (y .n * (y .l + y .e)))))) (x .ensures)
-    ∙ sym (refusal-after (readSetupRules s) (room k (setupAt s .n * dim (setupAt s)) ∷ elements (setupAt s .p) (setupAt s .M) ∷ []) (passed (readSetupRules s) tt e))
+    ∙ sym (refusal-after (dueSetup s) (room k (setupAt s .n * dim (setupAt s)) ∷ elements (setupAt s .p) (setupAt s .M) ∷ []) (passed (dueSetup s) tt e))
 
 pub read-matrix-refusal-spec : {M : Type 1} → statement M
 read-matrix-refusal-spec =
     tie.close
     (tie.spec
-    read-setup-refusal-requires
+    setup-due-requires
     returns
     params-at-requires
     matrix-len-requires
