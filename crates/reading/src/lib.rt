@@ -102,7 +102,7 @@ pub fn read_setup_matrix(s: &[u8], matrix: &mut [u16]) -> Written
 }
 
 // DL
-fn dealing_at(s: &[u8]) -> DealingRecord
+pub fn dealing_at(s: &[u8]) -> DealingRecord
     ensures { λ r. ⌜ r ≡ dealingAt (now (s .entry)) ⌝ }
 {
     let dealing = words::word(s, 1);
@@ -127,7 +127,7 @@ fn dealing_entries(part: &[u8], d: usize, p: u16) -> u16
     base::or_when(a, 4, !words::words_below(part, 3 + d, d, p))
 }
 
-fn read_dealing_refusal(s: Params, part: &[u8], g_room: usize, h_room: usize) -> u16
+pub fn read_dealing_refusal(s: Params, part: &[u8], g_room: usize, h_room: usize) -> u16
     ensures { λ r. ⌜ r ≡ refusal (readDealingRules (setupOf s []) (now (part .entry)) «g_room» «h_room») ⌝ }
 {
     let a = dealing_due(s, part, g_room, h_room);

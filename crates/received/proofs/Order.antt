@@ -1,6 +1,5 @@
 -- The PV and VD records of a file as a list of records: reading their bytes is giving the records one after the other, and the order of accepted records leaves no
 -- trace in what has been received.
--- Received: one record; recordBytes, body: its bytes, and those of a list
 -- give, giveAll: what has been seen after one record, and after a list
 -- same-received: two files with the same records after the same head, both read to the end, have received the same
 use Prim.Native.Nat.{ℕ, zero, suc, _+_, _*_, _<_, _≤_}
@@ -22,21 +21,9 @@ use Rattle.records.specs.declared.PairRecord.{PairRecord}
 use Rattle.records.specs.declared.VerdictRecord.{VerdictRecord}
 use Rattle.received.specs.declared.Head.{Head}
 use Rattle.received.specs.declared.Seen.{Seen}
-use Rattle.received.specs.Received.{pairFault, verdictFault, refuse, takePair, takeVerdict, orTake, givePair, giveVerdict, stepPair, stepVerdict, step, readFor}
+use Rattle.received.specs.Received.{Received, pair, verdict, recordBytes, body, pairFault, verdictFault, refuse, takePair, takeVerdict, orTake, givePair, giveVerdict, stepPair, stepVerdict, step, readFor}
 use Rattle.received.proofs.Reading.{pair-fair, verdict-fair, read-end}
 use Rattle.received.proofs.Table.{Entry, In, fill, Fresh, any-order}
-
-pub data Received : Type 0 where
-  pair : PairRecord → Received
-  verdict : VerdictRecord → Received
-
-abbrev pub recordBytes : Received → List ℕ
-recordBytes (pair x) = bytes (pairWords x)
-recordBytes (verdict x) = bytes (verdictWords x)
-
-abbrev pub body : List Received → List ℕ
-body [] = []
-body (r ∷ rs) = recordBytes r ++ body rs
 
 abbrev pub give : Head → Seen → Received → Seen
 give h st (pair x) = givePair h st x

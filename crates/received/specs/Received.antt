@@ -1,6 +1,7 @@
 -- The PV and VD records of a holder's file (document 01, "Records": "then its n PV and everyone's n VD in any order"; "In a file the first faulty
 -- record decides: the mark, then the length, then the lowest number").
 -- Head: what stands before them decides: p, n, and the file's dealing number and holder
+-- Received: one record; recordBytes, body: its bytes, and those of a list
 -- Seen: the byte reached, the refusal or 0, and for each holder 0, or one more than its pair value, and 0, or one more than its verdict
 -- pairFault, verdictFault: what is faulty in the fields of a whole PV or VD
 -- markFault: the refusal of a mark that is neither
@@ -10,17 +11,30 @@
 use mathlib.Core.Path.{_≡_}
 use Prim.Native.Nat.{ℕ, zero, suc, _+_, _≤_}
 use mathlib.Core.Bool.{not}
-use mathlib.Core.List.{List, [], _∷_}
+use mathlib.Core.List.{List, [], _∷_, _++_}
 use lib.ListN.{length, getD, set, drop, replicate}
 use lib.Dec.{ltb, leb, eqb}
 use Rattle.base.specs.Choice.{pick}
 use Rattle.base.specs.Rules.{Rule, _when_, refusal}
-use Rattle.words.specs.Words.{wordAt}
-use Rattle.records.specs.Records.{markSU, markDL, markPV, markVD, pairSize, verdictSize, pairAt, verdictAt}
+use Rattle.words.specs.Words.{bytes, wordAt}
+use Rattle.records.specs.Records.{markSU, markDL, markPV, markVD, pairSize, verdictSize, pairWords, verdictWords, pairAt, verdictAt}
 use Rattle.records.specs.declared.PairRecord.{PairRecord}
 use Rattle.records.specs.declared.VerdictRecord.{VerdictRecord}
 use Rattle.received.specs.declared.Head.{Head}
 use Rattle.received.specs.declared.Seen.{Seen}
+
+-- the records as values, and their bytes one after the other
+pub data Received : Type 0 where
+  pair : PairRecord → Received
+  verdict : VerdictRecord → Received
+
+abbrev pub recordBytes : Received → List ℕ
+recordBytes (pair x) = bytes (pairWords x)
+recordBytes (verdict x) = bytes (verdictWords x)
+
+abbrev pub body : List Received → List ℕ
+body [] = []
+body (r ∷ rs) = recordBytes r ++ body rs
 
 -- "4: a field element is p or more"; "5: holder .. out of range, in a file a PV to a holder other than DL's"; "9: dealing number 0 outside SH, or not the
 -- file's" (the file's is not 0); "10: a PV or VD again from one holder"

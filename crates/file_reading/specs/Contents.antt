@@ -1,0 +1,75 @@
+-- What a holder's file holds, and what follows from it.
+-- Contents: the setup with its matrix, the dealing number, the holder, its part g and h, the n values that it received and the n verdicts, by sender
+-- judgementOf, verdictOf: the judgement by step 4 and the verdict that says it; fateOf: the outcome by step 5, as the answer types have them
+-- judgement, fate, keptShares: those of the contents; the shares where the dealing is kept, and none where it is aborted
+-- InOrder: contents that break nothing
+-- fileBytes: the contents as a file, PV by rising sender and then VD by rising holder
+use mathlib.Core.Path.{_≡_}
+use mathlib.Core.List.{List, [], _++_}
+use Prim.Native.Nat.{ℕ, _≤_, _<_}
+use lib.Dec.{ltb}
+use Rattle.base.specs.Choice.{pick}
+use Rattle.base.specs.Search.{first, Vec}
+use Rattle.base.specs.Fill.{tab}
+use Rattle.linear.specs.Dot.{at}
+use Rattle.scheme.specs.declared.Judgement.{Judgement}
+use Rattle.scheme.specs.declared.Judgement.the-variants.{Accept, Reject}
+use Rattle.scheme.specs.declared.Fate.{Fate}
+use Rattle.scheme.specs.declared.Fate.the-variants.{Kept, Aborted}
+use Rattle.scheme.specs.Setup.{Setup, dim, IsSetup}
+use Rattle.scheme.specs.Dealing.{differs, saidReject, isKept, shares}
+use Rattle.words.specs.Words.{bytes}
+use Rattle.records.specs.Records.{setupWords, dealingWords}
+use Rattle.received.specs.Received.{Received, pair, verdict, body}
+
+pub record Contents : Type 0 where
+  pub setup : Setup
+  pub dealing : ℕ
+  pub holder : ℕ
+  pub g : List ℕ
+  pub h : List ℕ
+  pub values : List ℕ
+  pub verdicts : List ℕ
+
+unfoldable pub judgementOf : Setup → List ℕ → List ℕ → Judgement
+judgementOf S h values = let j = first (differs S h values) (S .n) in pick (ltb j (S .n)) (Reject j) Accept
+
+abbrev pub verdictOf : Judgement → ℕ
+verdictOf Accept = 1
+verdictOf (Reject j) = 0
+
+unfoldable pub fateOf : Setup → List ℕ → Fate
+fateOf S verdicts = pick (isKept S verdicts) Kept (Aborted (first (saidReject verdicts) (S .n)))
+
+abbrev pub judgement : Contents → Judgement
+judgement C = judgementOf (C .setup) (C .h) (C .values)
+
+abbrev pub fate : Contents → Fate
+fate C = fateOf (C .setup) (C .verdicts)
+
+abbrev pub keptShares : Contents → List ℕ
+keptShares C = pick (isKept (C .setup) (C .verdicts)) (shares (C .setup) (C .g)) []
+
+-- "Dealing numbers are 1 to 65535"; the own verdict is that of the own judgement
+pub record InOrder (C : Contents) : Type 0 where
+  pub setup : IsSetup (C .setup)
+  pub dealing : (1 ≤ C .dealing) × (C .dealing ≤ 65535)
+  pub holder : C .holder < C .setup .n
+  pub row : Vec (C .setup .p) (dim (C .setup)) (C .g)
+  pub column : Vec (C .setup .p) (dim (C .setup)) (C .h)
+  pub received : Vec (C .setup .p) (C .setup .n) (C .values)
+  pub heard : Vec 2 (C .setup .n) (C .verdicts)
+  pub own : at (C .verdicts) (C .holder) ≡ verdictOf (judgement C)
+
+-- "A holder's file is SU, then that holder's DL, then its n PV and everyone's n VD"
+abbrev pub pairs : Contents → List Received
+pairs C = tab (C .setup .n) (λ j. pair (record { dealing = C .dealing; sender = j; receiver = C .holder; value = at (C .values) j }))
+
+abbrev pub verdicts : Contents → List Received
+verdicts C = tab (C .setup .n) (λ j. verdict (record { dealing = C .dealing; holder = j; verdict = at (C .verdicts) j }))
+
+abbrev pub fileBytes : Contents → List ℕ
+fileBytes C =
+    bytes (setupWords (C .setup))
+    ++ bytes (dealingWords (record { dealing = C .dealing; holder = C .holder }) (C .g) (C .h))
+    ++ body (pairs C ++ verdicts C)

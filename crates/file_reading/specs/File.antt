@@ -1,0 +1,164 @@
+-- A holder's file read to its end (document 01, "Records": "A holder's file is SU, then that holder's DL, then its n PV and everyone's n VD in any order"; "In a file
+-- the first faulty record decides").
+-- FileRead: a refusal with the byte where the faulty record starts, or the contents
+-- setupFault, dealingFault: the refusal of the first record, and of the second
+-- headOf: what PV and VD are held against
+-- complete: each of the first n holders has sent its record; lowered: what they sent
+-- contentsOf: the contents from what stands in SU and DL and what was received
+-- ofContents, ofEnd, ofReceived, ofDealing, readFile: what is read from the contents, from the file's end, from its PV and VD on, from its DL and its start on
+-- told: the contents as the code tells them
+-- numberOf, byteOf: the refusal's number, 0 where there is none, and its byte
+-- numbers: the contents as 18 numbers
+-- atByte, fileAnswer, fileLeft: a refusal at a byte; the answer and a lent buffer by what is read
+-- readFileRules, readFileCall, readFileLeft: the open call
+use mathlib.Core.Bool.{Bool, false, not, _&&_}
+use mathlib.Core.List.{List, [], _∷_, _++_}
+use Prim.Native.Nat.{ℕ, zero, suc, _+_, _-_, _*_}
+use lib.Dec.{eqb, ltb}
+use lib.ListN.{length, drop, replicate}
+use Rattle.base.specs.Choice.{pick}
+use Rattle.base.specs.Rules.{Rule, _when_, refusal, Answer, refused, given}
+use Rattle.base.specs.Search.{every}
+use Rattle.base.specs.Fill.{tab}
+use Rattle.linear.specs.Dot.{at}
+use Rattle.scheme.specs.declared.Params.{Params}
+use Rattle.scheme.specs.declared.Outcome.{Outcome}
+use Rattle.scheme.specs.declared.Judgement.{Judgement}
+use Rattle.scheme.specs.declared.Judgement.the-variants.{Accept, Reject}
+use Rattle.scheme.specs.declared.Fate.{Fate}
+use Rattle.scheme.specs.declared.Fate.the-variants.{Kept, Aborted}
+use Rattle.scheme.specs.Setup.{Setup, dim}
+use Rattle.scheme.specs.Answers.{answerBy, leftBy}
+use Rattle.words.specs.Words.{wordAt}
+use Rattle.records.specs.declared.DealingRecord.{DealingRecord}
+use Rattle.records.specs.Records.{markSU, setupAt, setupSize, dealingSize, dealingAt, dealingG, dealingH, readSetupRules, readDealingRules}
+use Rattle.received.specs.declared.Head.{Head}
+use Rattle.received.specs.declared.Seen.{Seen}
+use Rattle.received.specs.Received.{readReceived}
+use Rattle.file_reading.specs.declared.Told.{Told}
+use Rattle.file_reading.specs.declared.FileGiven.{FileGiven}
+use Rattle.file_reading.specs.declared.FileGiven.the-variants as fileGiven
+use Rattle.file_reading.specs.Contents.{Contents, judgement, verdictOf, fate, keptShares}
+
+pub data FileRead : Type 0 where
+  refusedAt : (number byte : ℕ) → FileRead
+  whole : Contents → FileRead
+
+-- "11: file ends with a record missing"; then SU's own refusals
+unfoldable pub setupFault : List ℕ → ℕ
+setupFault s = pick (eqb (length s) 0) 11 (refusal (readSetupRules s))
+
+-- of the file from the byte on where SU ends: "8: unknown mark, or one with no place there (SU first, DL second, then PV and VD)"; "10: a second SU or DL, by its mark
+-- alone and instead of 8"
+unfoldable pub dealingFault : Setup → List ℕ → ℕ
+dealingFault S t =
+    pick (eqb (length t) 0) 11
+    (pick (not (ltb (length t) 2) && eqb (wordAt t 0) markSU) 10 (refusal (readDealingRules S t (dim S) (dim S))))
+
+abbrev pub headOf : Setup → DealingRecord → Head
+headOf S x = record { p = S .p; n = S .n; dealing = x .dealing; holder = x .holder }
+
+unfoldable pub complete : ℕ → List ℕ → Bool
+complete n xs = every n (λ i. not (eqb (at xs i) 0))
+
+unfoldable pub lowered : ℕ → List ℕ → List ℕ
+lowered n xs = tab n (λ i. at xs i - 1)
+
+abbrev pub contentsOf : Setup → DealingRecord → (g h values verdicts : List ℕ) → Contents
+contentsOf S x g h values verdicts =
+    record { setup = S; dealing = x .dealing; holder = x .holder; g = g; h = h; values = values; verdicts = verdicts }
+
+-- "13: own VD differs from own judgement"; the file has `len` bytes
+unfoldable pub ofContents : Contents → ℕ → FileRead
+ofContents C len = pick (eqb (at (C .verdicts) (C .holder)) (verdictOf (judgement C))) (whole C) (refusedAt 13 len)
+
+-- "11: file ends with a record missing"; "11 and 13 come last, in that order"
+unfoldable pub ofEnd : Setup → DealingRecord → List ℕ → List ℕ → Seen → ℕ → FileRead
+ofEnd S x g h st len =
+    pick (complete (S .n) (st .values) && complete (S .n) (st .verdicts))
+    (ofContents (contentsOf S x g h (lowered (S .n) (st .values)) (lowered (S .n) (st .verdicts))) len)
+    (refusedAt 11 len)
+
+-- a fault's number and the byte where the record starts, or what follows where there is none
+abbrev pub orRefused : ℕ → ℕ → FileRead → FileRead
+orRefused zero byte r = r
+orRefused (suc k) byte r = refusedAt (suc k) byte
+
+unfoldable pub ofReceived : Setup → DealingRecord → List ℕ → List ℕ → List ℕ → FileRead
+ofReceived S x g h s =
+    let st = readReceived (headOf S x) s (setupSize S + dealingSize S) in
+    orRefused (st .refusal) (st .at) (ofEnd S x g h st (length s))
+
+-- "B the byte where the record starts, or the file's length for 11 and 13": where the file ends with SU, its length is that byte
+unfoldable pub ofDealing : Setup → List ℕ → FileRead
+ofDealing S s =
+    let t = drop (setupSize S) s in
+    orRefused (dealingFault S t) (setupSize S) (ofReceived S (dealingAt t) (dealingG S t) (dealingH S t) s)
+
+unfoldable pub readFile : List ℕ → FileRead
+readFile s = orRefused (setupFault s) 0 (ofDealing (setupAt s) s)
+
+abbrev pub numberOf : FileRead → ℕ
+numberOf (refusedAt k byte) = k
+numberOf (whole C) = 0
+
+abbrev pub byteOf : FileRead → ℕ
+byteOf (refusedAt k byte) = byte
+byteOf (whole C) = 0
+
+-- the shares, then zeros up to eight
+abbrev pub eight : List ℕ → List ℕ
+eight xs = xs ++ replicate (8 - length xs) 0
+
+abbrev pub paramsOf : Setup → Params
+paramsOf S = record { p = S .p; l = S .l; e = S .e; n = S .n }
+
+abbrev pub told : Contents → Told
+told C =
+    record {
+      setup = paramsOf (C .setup);
+      dealing = C .dealing;
+      holder = C .holder;
+      outcome = record { judgement = judgement C; fate = fate C };
+      shares = eight (keptShares C);
+    }
+
+-- THE CALL: a file of at most 4,096 bytes, into a lent buffer of 18 numbers: "p, ℓ, e, n; dealing number and holder; verdict, with the holder named after `reject`;
+-- outcome, with the holder named after `aborted`; column and value", each of the two as 1, 0 or 0 and the holder named, and the eight shares
+abbrev pub judged : Judgement → List ℕ
+judged Accept = 1 ∷ 0 ∷ []
+judged (Reject j) = 0 ∷ j ∷ []
+
+abbrev pub settled : Fate → List ℕ
+settled Kept = 1 ∷ 0 ∷ []
+settled (Aborted i) = 0 ∷ i ∷ []
+
+abbrev pub numbers : Contents → List ℕ
+numbers C =
+    C .setup .p ∷ C .setup .l ∷ C .setup .e ∷ C .setup .n ∷ C .dealing ∷ C .holder ∷ judged (judgement C) ++ settled (fate C) ++ eight (keptShares C)
+
+abbrev pub readFileRules : List ℕ → List ℕ → List Rule
+readFileRules s out = (3 when ltb 4096 (length s)) ∷ (3 when not (eqb (length out) 18)) ∷ []
+
+-- a refusal at a byte gives the byte beside its number
+abbrev pub atByte : ℕ → ℕ → Answer
+atByte k byte = record { answered = false; number = k; values = byte ∷ [] }
+
+abbrev pub fileAnswer : (Contents → List ℕ) → FileRead → Answer
+fileAnswer values (refusedAt k byte) = atByte k byte
+fileAnswer values (whole C) = given (values C)
+
+abbrev pub fileLeft : (Contents → List ℕ) → FileRead → List ℕ → List ℕ
+fileLeft new (refusedAt k byte) old = old
+fileLeft new (whole C) old = new C
+
+abbrev pub readFileCall : List ℕ → List ℕ → Answer
+readFileCall s out = answerBy (refusal (readFileRules s out)) (fileAnswer (λ C. []) (readFile s))
+
+abbrev pub readFileLeft : List ℕ → List ℕ → List ℕ
+readFileLeft s out = leftBy (refusal (readFileRules s out)) (fileLeft numbers (readFile s) out) out
+
+abbrev pub paperGiven : FileGiven → Answer
+paperGiven (fileGiven.Given) = given []
+paperGiven (fileGiven.RefusedAt k byte) = atByte k byte
+paperGiven (fileGiven.Refused k) = refused k
