@@ -5,6 +5,7 @@ use mathlib.Core.Bool.{false, _&&_}
 use mathlib.Core.List.{List, [], _∷_, _++_, map}
 use mathlib.Core.Option.{Option·getD}
 use Prim.Native.Nat.{ℕ}
+use Rattle.base.specs.Choice.{pick}
 use Rattle.base.specs.Rules.{Answer}
 use Rattle.base.specs.Sum.{sum, bit, unit}
 use Rattle.base.specs.Search.{every, first, firstFrom, firstOf, firstVec}
@@ -32,9 +33,9 @@ g i = dealLeftG ex (3 ∷ []) (1 ∷ 5 ∷ 2 ∷ []) i (0 ∷ 0 ∷ []) (0 ∷ 0
 abbrev pub h : ℕ → List ℕ
 h i = dealLeftH ex (3 ∷ []) (1 ∷ 5 ∷ 2 ∷ []) i (0 ∷ 0 ∷ []) (0 ∷ 0 ∷ [])
 
--- a call's number, then its values; of an opening also the buffer, which holds 0 before
+-- a call's answer: 1 where it answered and 0 where it was refused, its number, its values; of an opening also the buffer, which holds 0 before
 abbrev pub line : Answer → List ℕ
-line a = a .number ∷ a .values
+line a = pick (a .answered) 1 0 ∷ a .number ∷ a .values
 
 abbrev pub opens : ℕ → List ℕ → List ℕ
 opens s xs = line (openCall ex s xs (0 ∷ [])) ++ openLeft ex s xs (0 ∷ [])
@@ -52,15 +53,15 @@ table =
     (pointsLeft (record { p = 7; l = 1; e = 1; n = 3; M = 0 ∷ 0 ∷ 0 ∷ 0 ∷ 0 ∷ 0 ∷ [] }) is 6 ∷ 2 ∷ 5 ∷ 3 ∷ 4 ∷ 4 ∷ [])
     ∷ (g 0 is 0 ∷ 3 ∷ []) ∷ (g 1 is 2 ∷ 4 ∷ []) ∷ (g 2 is 4 ∷ 5 ∷ [])
     ∷ (h 0 is 6 ∷ 6 ∷ []) ∷ (h 1 is 4 ∷ 3 ∷ []) ∷ (h 2 is 2 ∷ 0 ∷ [])
-    ∷ (line (pairValueCall ex (g 0) 1) is 0 ∷ 2 ∷ []) ∷ (line (pairValueCall ex (g 1) 1) is 0 ∷ 1 ∷ []) ∷ (line (pairValueCall ex (g 2) 1) is 0 ∷ 0 ∷ [])
-    ∷ (opens 5 (0 ∷ 4 ∷ []) is 0 ∷ 3 ∷ [])
+    ∷ (line (pairValueCall ex (g 0) 1) is 1 ∷ 0 ∷ 2 ∷ []) ∷ (line (pairValueCall ex (g 1) 1) is 1 ∷ 0 ∷ 1 ∷ []) ∷ (line (pairValueCall ex (g 2) 1) is 1 ∷ 0 ∷ 0 ∷ [])
+    ∷ (opens 5 (0 ∷ 4 ∷ []) is 1 ∷ 0 ∷ 3 ∷ [])
     ∷ (Option·getD (findRow ex (holds 5) 0) [] is 2 ∷ 6 ∷ [])
-    ∷ (opens 7 (0 ∷ 2 ∷ 4 ∷ []) is 0 ∷ 3 ∷ [])
-    ∷ (opens 7 (0 ∷ 2 ∷ 5 ∷ []) is 7 ∷ 0 ∷ [])
-    ∷ (opens 1 (0 ∷ []) is 6 ∷ 0 ∷ 0 ∷ [])
+    ∷ (opens 7 (0 ∷ 2 ∷ 4 ∷ []) is 1 ∷ 0 ∷ 3 ∷ [])
+    ∷ (opens 7 (0 ∷ 2 ∷ 5 ∷ []) is 0 ∷ 7 ∷ 0 ∷ [])
+    ∷ (opens 1 (0 ∷ []) is 0 ∷ 6 ∷ 0 ∷ 0 ∷ [])
     ∷ (Option·getD (findSweep ex (holds 1) 0) [] is 1 ∷ 4 ∷ [])
-    ∷ (opens 0 [] is 6 ∷ 0 ∷ 0 ∷ [])
-    ∷ (opens 7 (0 ∷ 4 ∷ 1 ∷ []) is 0 ∷ 6 ∷ [])
+    ∷ (opens 0 [] is 0 ∷ 6 ∷ 0 ∷ 0 ∷ [])
+    ∷ (opens 7 (0 ∷ 4 ∷ 1 ∷ []) is 1 ∷ 0 ∷ 6 ∷ [])
     ∷ []
 
 pub cases : map (λ (c : Case). c .gives) table ≡ map (λ (c : Case). c .wanted) table

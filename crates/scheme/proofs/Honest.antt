@@ -4,12 +4,10 @@ use mathlib.Core.Path.{_≡_, refl, sym, ap}
 use mathlib.Core.List.{List, [], _∷_}
 use Prim.Native.Nat.{ℕ, _-_, _<_}
 use native.Mathlib.Nat.{mod-lt}
-use borrow.Author.Tests.{lt-leb}
 use lib.ListN.{length, replicate, length-replicate}
 use Rattle.base.specs.Rules.{refusal, given}
 use Rattle.base.specs.Search.{Vec}
 use Rattle.base.specs.Fill.{tab}
-use Rattle.base.proofs.Rules.{none-applies}
 use Rattle.base.proofs.Fill.{length-tab, getD-tab, tab-vec}
 use Rattle.linear.specs.Dot.{at}
 use Rattle.scheme.specs.Setup.{Setup, dim}
@@ -17,7 +15,7 @@ use Rattle.scheme.specs.Answers.{yes}
 use Rattle.scheme.specs.Dealing.{partG, pairValue}
 use Rattle.scheme.specs.Calls.{dealRules, dealLeftG, dealLeftH, judgeCall, outcomeLeft, determinesCall}
 use Rattle.scheme.specs.Demand.{Dealing, Done, Honest}
-use Rattle.scheme.proofs.Calls.{limits-clear, limits-pos, size-clear, elements-clear, DealOk, pairValue-accepts}
+use Rattle.scheme.proofs.Calls.{limits-pos, DealOk, deal-accepts, pairValue-accepts}
 use Rattle.scheme.proofs.Demand.{demand3}
 
 module _ (S : Setup) (secrets random : List ℕ) (ok : DealOk S secrets random) where
@@ -49,39 +47,8 @@ module _ (S : Setup) (secrets random : List ℕ) (ok : DealOk S secrets random) 
   not-declined : (i : ℕ) → i < S .n → refusal (dealRules S secrets random i zeros zeros) ≡ 0
   unfolding zeros
   not-declined i l =
-      let L = limits-clear S (ok .setup .limits) in
       let z = length-replicate {A = ℕ} (dim S) 0 in
-      none-applies (dealRules S secrets random i zeros zeros) (
-        L .field,
-        (
-          L .secret,
-          (
-            L .random,
-            (
-              L .holders,
-              (
-                size-clear (S .M) _ (ok .setup .matrix .size),
-                (
-                  size-clear secrets _ (ok .vectors .size),
-                  (
-                    size-clear random _ (ok .entries .size),
-                    (
-                      size-clear zeros _ z,
-                      (
-                        size-clear zeros _ z,
-                        (
-                          elements-clear (S .p) _ (S .M) (ok .setup .matrix),
-                          (elements-clear (S .p) _ secrets (ok .vectors), (elements-clear (S .p) _ random (ok .entries), (lt-leb (S .n) i l, tt))),
-                        ),
-                      ),
-                    ),
-                  ),
-                ),
-              ),
-            ),
-          ),
-        ),
-      )
+      deal-accepts S secrets random i zeros zeros ok z z l
 
   part-ok : (i : ℕ) → i < S .n → Vec (S .p) (dim S) (g i)
   unfolding g

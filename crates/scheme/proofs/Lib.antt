@@ -2,6 +2,7 @@ pub mod Calls
 pub mod Points
 pub mod Verdicts
 pub mod Members
+pub mod Answering
 pub mod Sets
 pub mod Certificates
 pub mod Grows
