@@ -9,3 +9,4 @@ pub mod Grows
 pub mod Demand
 pub mod Honest
 pub mod Cases
+pub mod Lists
