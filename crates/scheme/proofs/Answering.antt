@@ -6,25 +6,27 @@ use mathlib.Core.List.{List, [], _∷_}
 use mathlib.Core.Option.{Option, none, some, Option·none-ne-some}
 use Prim.Native.Nat.{ℕ, zero, suc, _*_, _/_, _%_, _^_, _≤_, _<_}
 use native.Mathlib.Omega.{arith}
-use borrow.Author.Tests.{eqb-false, le-ltb, lt-ltb, ne-eqb, not-true, not-false}
+use borrow.Author.Tests.{eqb-true, eqb-false, ne-eqb, not-true, not-false}
 use lib.Dec.{eqb, ltb}
 use lib.ListN.{length, take}
 use Rattle.base.specs.Choice.{pick}
-use Rattle.base.specs.Rules.{Answer, refusal, refused, given}
-use Rattle.base.specs.Search.{every, first, First, found, missing, firstVec, Vec}
-use Rattle.base.specs.Matrix.{flat, allBelow}
+use Rattle.base.specs.Rules.{Answer, refusal, given}
+use Rattle.base.specs.Search.{first, First, found, missing, firstVec, Vec}
+use Rattle.base.specs.Matrix.{flat}
 use Rattle.base.proofs.Matrix.{below-is}
 use Rattle.base.proofs.Search.{every-at, every-all, first-is, firstVec-sound, firstVec-complete}
 use Rattle.field.specs.Fields.{isField}
 use Rattle.scheme.specs.Setup.{Setup, dim, IsSetup}
-use Rattle.scheme.specs.Answers.{accepts, rejects, kept, aborted, fair, disagree, isARow, isAVector, isNeither, yes, no, undetermined, inconsistent, answerBy}
+use Rattle.scheme.specs.Answers.{kept, aborted, fair, disagree, isARow, isAVector, isNeither, yes, no, undetermined, inconsistent, answerBy}
 use Rattle.scheme.specs.Dealing.{differs, judge, saidReject, isKept, outcome, pairValue, disagrees, rehearse}
 use Rattle.scheme.specs.Sets.{holds, members, hasRow, hasSweep, kind, determines, isPrivate}
 use Rattle.scheme.specs.Opening.{gives, opening, openedBy, combine}
-use Rattle.scheme.specs.Calls.{decide, pointsRules, dealRules, dealAllRules, pairValueRules, judgeRules, outcomeRules, rehearseRules, setRules, judgeSetRules, openRules, openAnswer, openCall, combineRules}
+use Rattle.scheme.specs.Calls.{decide, pointsRules, dealRules, dealAllRules, pairValueRules, judgeRules, outcomeRules, rehearseRules, setRules, judgeSetRules, openRules, openCall, combineRules}
 use Rattle.scheme.specs.Answering.{Marked, AllMarked, Answers, Behind, OpenAnswers, Answering}
-use Rattle.scheme.proofs.Calls.{points-accepts, deal-accepts, dealAll-accepts, pairValue-accepts, judge-accepts, outcome-accepts, rehearse-accepts, set-accepts, judgeSet-accepts, SetOk, open-by-shares, combine-accepts}
+use Rattle.scheme.proofs.Calls.{points-accepts, deal-accepts, dealAll-accepts, pairValue-accepts, judge-accepts, outcome-accepts, rehearse-accepts, set-accepts, judgeSet-accepts, open-by-shares, combine-accepts}
+use Rattle.scheme.proofs.Verdicts.{accept-when, reject-when}
 use Rattle.scheme.proofs.Members.{members-wide}
+use Rattle.scheme.proofs.Certificates.{by-search, undetermined-in-hand}
 
 is-false : (b : Bool) → (b ≡ true → ⊥) → b ≡ false
 is-false true h = absurd (h refl)
@@ -40,8 +42,12 @@ choice-given true x y a c = a
 choice-given false x y a c = c
 
 judge-given : (S : Setup) (h values : List ℕ) → Given (judge S h values)
-unfolding Given judge
-judge-given S h values = let j = first (differs S h values) (S .n) in choice-given (ltb j (S .n)) (rejects j) accepts refl refl
+unfolding Given differs
+judge-given S h values = go (first (differs S h values) (S .n)) (first-is (differs S h values) (S .n))
+  where
+    go : (r : ℕ) → First (differs S h values) (S .n) r → Given (judge S h values)
+    go r (found l t below) = rw (reject-when S h values r l t below)
+    go r (missing e all) = rw (accept-when S h values (λ j l. eqb-true _ _ (not-false _ (all j l))))
 
 outcome-given : (S : Setup) (verdicts : List ℕ) → Given (outcome S verdicts)
 unfolding Given outcome
@@ -61,6 +67,33 @@ kind-given : (S : Setup) (X : ℕ → Bool) (q : ℕ) → Given (kind S X q)
 unfolding Given kind
 kind-given S X q = choice-given (hasRow S X q) isARow (pick (hasSweep S X q) isAVector isNeither) refl (choice-given (hasSweep S X q) isAVector isNeither refl refl)
 
+-- an opening: the secrets, or 6, or 7
+data OpeningIs (S : Setup) (s : ℕ) (xs : List ℕ) : Type 0 where
+  secrets : determines S (holds s) ≡ true → Behind S s xs → (vs : List ℕ) → opening S (holds s) xs ≡ given vs → OpeningIs S s xs
+  by-six : determines S (holds s) ≡ false → (q : ℕ) → opening S (holds s) xs ≡ undetermined q → OpeningIs S s xs
+  by-seven : determines S (holds s) ≡ true → (Behind S s xs → ⊥) → opening S (holds s) xs ≡ inconsistent → OpeningIs S s xs
+
+opening-is : (S : Setup) (s : ℕ) (xs : List ℕ) → OpeningIs S s xs
+unfolding determines
+opening-is S s xs = go (first lacks (S .l)) (first-is lacks (S .l))
+  where
+    lacks : ℕ → Bool
+    lacks k = not (hasRow S (holds s) k)
+
+    search : (o : Option (List ℕ)) → firstVec (S .p) (dim S) (gives S (members (S .n) (holds s)) xs) ≡ o → determines S (holds s) ≡ true → OpeningIs S s xs
+    search none e d =
+        by-seven d (λ b. Option·none-ne-some _ (sym e ∙ firstVec-complete (S .p) (dim S) _ (b .vector) (b .ok) (b .all) .1))
+        (by-search S (holds s) xs d ∙ ap (openedBy (S .l)) e)
+    search (some v) e d =
+        let w = firstVec-sound (S .p) (dim S) _ v e in
+        secrets d (record { vector = v; ok = w .0; all = w .1 }) (take (S .l) v) (by-search S (holds s) xs d ∙ ap (openedBy (S .l)) e)
+
+    go : (r : ℕ) → First lacks (S .l) r → OpeningIs S s xs
+    go r (found l t below) =
+        by-six (is-false (determines S (holds s)) (λ d. false≢true (sym (not-true _ t) ∙ every-at (S .l) (hasRow S (holds s)) d r l))) r
+        (undetermined-in-hand S (holds s) xs r l (λ j m. not-false _ (below j m)) (not-true _ t))
+    go r (missing e all) = search _ refl (every-all (S .l) (hasRow S (holds s)) (λ k l. not-false _ (all k l)))
+
 -- THE MARK
 pub marked-by : (r : ℕ) (a : Answer) → Marked a → Marked (answerBy r a)
 marked-by zero a m = m
@@ -70,20 +103,13 @@ marked-given : (a : Answer) → Given a → Marked a
 unfolding Given
 marked-given a e = ap (λ (x : Answer). x .answered) e ∙ ap (λ (x : Answer). eqb (x .number) 0) (sym e)
 
-opened-marked : (l : ℕ) (o : Option (List ℕ)) → Marked (openedBy l o)
-opened-marked l none = refl
-opened-marked l (some v) = refl
-
-opening-marked : (S : Setup) (X : ℕ → Bool) (xs : List ℕ) → Marked (opening S X xs)
-unfolding opening
-opening-marked S X xs =
-    let q = first (λ k. not (hasRow S X k)) (S .l) in
-    let o = firstVec (S .p) (dim S) (gives S (members (S .n) X) xs) in
-    either-marked (ltb q (S .l)) (undetermined q) (openedBy (S .l) o) refl (opened-marked (S .l) o)
+opening-marked : (S : Setup) (s : ℕ) (xs : List ℕ) → Marked (opening S (holds s) xs)
+opening-marked S s xs = go (opening-is S s xs)
   where
-    either-marked : (b : Bool) (x y : Answer) → Marked x → Marked y → Marked (pick b x y)
-    either-marked true x y a c = a
-    either-marked false x y a c = c
+    go : OpeningIs S s xs → Marked (opening S (holds s) xs)
+    go (secrets d b vs e) = rw e refl
+    go (by-six d q e) = rw e refl
+    go (by-seven d no e) = rw e refl
 
 pub all-marked : AllMarked
 all-marked =
@@ -98,7 +124,7 @@ all-marked =
       determines = λ S s. marked-by (refusal (setRules S s)) _ (marked-given _ (decide-given (determines S (holds s))));
       private = λ S s. marked-by (refusal (setRules S s)) _ (marked-given _ (decide-given (isPrivate S (holds s))));
       judge-set = λ S s q out. marked-by (refusal (judgeSetRules S s q out)) _ (marked-given _ (kind-given S (holds s) q));
-      opening = λ S s xs out. marked-by (refusal (openRules S s xs out)) _ (opening-marked S (holds s) xs);
+      opening = λ S s xs out. marked-by (refusal (openRules S s xs out)) _ (opening-marked S s xs);
       combine = λ p cs xs. marked-by (refusal (combineRules p cs xs)) (given (combine p cs xs ∷ [])) refl;
     }
 
@@ -111,60 +137,35 @@ given-given : (vs : List ℕ) → Given (given vs)
 unfolding Given
 given-given vs = refl
 
-module _ (S : Setup) (s : ℕ) (xs out : List ℕ) (fine : refusal (openRules S s xs out) ≡ 0) where
-  -- the opening's own answer, where its table is passed
-  call-is : (a : Answer) → opening S (holds s) xs ≡ a → openCall S s xs out ≡ openAnswer a
-  call-is a e = rw (fine, e)
+open-answers : (S : Setup) (s : ℕ) (xs out : List ℕ) → refusal (openRules S s xs out) ≡ 0 → OpenAnswers S s xs out
+open-answers S s xs out fine = go (opening-is S s xs)
+  where
+    -- the call gives the opening's own answer
+    is : (a : Answer) → opening S (holds s) xs ≡ a → (openCall S s xs out .answered ≡ a .answered) × (openCall S s xs out .number ≡ a .number)
+    is a e = rw (fine, e) (refl, refl)
 
-  data Answered : Type 0 where
-    secrets : determines S (holds s) ≡ true → Behind S s xs → (vs : List ℕ) → openCall S s xs out ≡ openAnswer (given vs) → Answered
-    by-six : determines S (holds s) ≡ false → (q : ℕ) → openCall S s xs out ≡ openAnswer (undetermined q) → Answered
-    by-seven : determines S (holds s) ≡ true → (Behind S s xs → ⊥) → openCall S s xs out ≡ openAnswer inconsistent → Answered
-
-  answered-as : Answered
-  unfolding determines opening
-  answered-as = go (first (λ k. not (hasRow S (holds s) k)) (S .l)) refl (first-is (λ k. not (hasRow S (holds s) k)) (S .l))
-    where
-      search : (o : Option (List ℕ)) → firstVec (S .p) (dim S) (gives S (members (S .n) (holds s)) xs) ≡ o → determines S (holds s) ≡ true
-          → opening S (holds s) xs ≡ openedBy (S .l) o → Answered
-      search none e d o =
-          by-seven d (λ b. Option·none-ne-some _ (sym e ∙ firstVec-complete (S .p) (dim S) _ (b .vector) (b .ok) (b .all) .1)) (call-is inconsistent o)
-      search (some v) e d o =
-          let w = firstVec-sound (S .p) (dim S) _ v e in
-          secrets d (record { vector = v; ok = w .0; all = w .1 }) (take (S .l) v) (call-is (given (take (S .l) v)) o)
-
-      go : (r : ℕ) → first (λ k. not (hasRow S (holds s) k)) (S .l) ≡ r → First (λ k. not (hasRow S (holds s) k)) (S .l) r → Answered
-      go r e (found l t h) =
-          by-six (is-false (determines S (holds s)) (λ d. false≢true (sym (not-true _ t) ∙ every-at (S .l) (hasRow S (holds s)) d r l))) r
-          (call-is (undetermined r) (rw (e, lt-ltb r (S .l) l)))
-      go r e (missing z h) =
-          search _ refl (every-all (S .l) (hasRow S (holds s)) (λ k l. not-false _ (h k l))) (rw (e, z, le-ltb (S .l) (S .l) (omega arith)))
-
-  open-answers : OpenAnswers S s xs out
-  open-answers = go answered-as
-    where
-      is : {a : Answer} → openCall S s xs out ≡ a → (openCall S s xs out .answered ≡ a .answered) × (openCall S s xs out .number ≡ a .number)
-      is e = (ap (λ (x : Answer). x .answered) e, ap (λ (x : Answer). x .number) e)
-
-      go : Answered → OpenAnswers S s xs out
-      go (secrets d b vs e) =
-          record {
-            answers = (λ t. (d, b), λ q. is e .0);
-            six = (λ n. absurd (eqb-false 0 6 refl (sym (is e .1) ∙ n)), λ f. absurd (false≢true (sym f ∙ d)));
-            seven = (λ n. absurd (eqb-false 0 7 refl (sym (is e .1) ∙ n)), λ q. absurd (q .1 b));
-          }
-      go (by-six d q e) =
-          record {
-            answers = (λ t. absurd (false≢true (sym (is e .0) ∙ t)), λ p. absurd (false≢true (sym d ∙ p .0)));
-            six = (λ n. d, λ f. is e .1);
-            seven = (λ n. absurd (eqb-false 6 7 refl (sym (is e .1) ∙ n)), λ p. absurd (false≢true (sym d ∙ p .0)));
-          }
-      go (by-seven d no e) =
-          record {
-            answers = (λ t. absurd (false≢true (sym (is e .0) ∙ t)), λ p. absurd (no (p .1)));
-            six = (λ n. absurd (eqb-false 7 6 refl (sym (is e .1) ∙ n)), λ f. absurd (false≢true (sym f ∙ d)));
-            seven = (λ n. (d, no), λ p. is e .1);
-          }
+    go : OpeningIs S s xs → OpenAnswers S s xs out
+    go (secrets d b vs e) =
+        let r = is (given vs) e in
+        record {
+          answers = (λ t. (d, b), λ q. r .0);
+          six = (λ n. absurd (eqb-false 0 6 refl (sym (r .1) ∙ n)), λ f. absurd (false≢true (sym f ∙ d)));
+          seven = (λ n. absurd (eqb-false 0 7 refl (sym (r .1) ∙ n)), λ q. absurd (q .1 b));
+        }
+    go (by-six d q e) =
+        let r = is (undetermined q) e in
+        record {
+          answers = (λ t. absurd (false≢true (sym (r .0) ∙ t)), λ p. absurd (false≢true (sym d ∙ p .0)));
+          six = (λ n. d, λ f. r .1);
+          seven = (λ n. absurd (eqb-false 6 7 refl (sym (r .1) ∙ n)), λ p. absurd (false≢true (sym d ∙ p .0)));
+        }
+    go (by-seven d no e) =
+        let r = is inconsistent e in
+        record {
+          answers = (λ t. absurd (false≢true (sym (r .0) ∙ t)), λ p. absurd (no (p .1)));
+          six = (λ n. absurd (eqb-false 7 6 refl (sym (r .1) ∙ n)), λ f. absurd (false≢true (sym f ∙ d)));
+          seven = (λ n. (d, no), λ p. r .1);
+        }
 
 pub answering : Answering
 answering =

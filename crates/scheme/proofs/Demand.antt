@@ -33,7 +33,7 @@ use Rattle.scheme.specs.Dealing.{place, dealtEntry, dealt, partG, partH,
 use Rattle.scheme.specs.Sets.{holds, members, rowAt, hasRow, determines}
 use Rattle.scheme.specs.Opening.{gives, opening, openedBy, combine}
 use Rattle.scheme.specs.Calls.{decide, judgeCall, judgeRules, outcomeRules, determinesCall, setRules, openRules, openCall, openLeft, openAnswer, combineRules, combineCall, pairValueRules, dealRules}
-use Rattle.scheme.specs.Demand.{Dealing, Member, Keeps, Done, Terms, InLimits, constants, sharesOver, Handed, handedIn, Array, column, IsArray, AgreesAt, Agrees, ExactlyOne, secretsOver, Opens, Refused, by-four, by-seven, Found, Honest, arrayDealt, HonestFound, FamilyFound, Demand3}
+use Rattle.scheme.specs.Demand.{Dealing, Member, Keeps, Done, Terms, InLimits, constants, sharesOver, Present, Handed, handedIn, Array, column, IsArray, AgreesAt, Agrees, ExactlyOne, secretsOver, Opens, Refused, by-four, by-seven, Found, Honest, arrayDealt, HonestFound, FamilyFound, Demand3}
 use Rattle.scheme.proofs.Calls.{not-refused, limits-prime, limits-pos, set-ok, SetOk, judge-accepts, outcome-ok, outcome-accepts, open-by-shares, combine-accepts, DealOk, deal-ok, below-vec}
 use Rattle.scheme.proofs.Verdicts.{accept-means, accept-when, kept-means, kept-when}
 use Rattle.scheme.proofs.Members.{member-at, place-of, members-wide}
@@ -238,7 +238,7 @@ module _ (S : Setup) (group : ℕ) {I : Type 0} (D : I → Dealing) (done : Done
           few = omega (arith, long, lim .some-terms .1);
         }) (omega (arith, long, lim .some-terms .0))) refl
 
-    met′ : (openers : ℕ) → openers < 2 ^ S .n → determines S (λ i. holds openers i && holds group i) ≡ true → (others : ℕ → ℕ)
+    met′ : (openers : ℕ) → openers < 2 ^ S .n → Present S group openers → (others : ℕ → ℕ)
         → Handed S group D ts openers (handedIn S group D ts openers others)
     met′ openers below present others =
         record {

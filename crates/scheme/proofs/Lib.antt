@@ -2,9 +2,9 @@ pub mod Calls
 pub mod Points
 pub mod Verdicts
 pub mod Members
-pub mod Answering
 pub mod Sets
 pub mod Certificates
+pub mod Answering
 pub mod Grows
 pub mod Demand
 pub mod Honest

@@ -2,7 +2,7 @@
 -- openers. What demand 3 asks is met, by computation. The opening gives the combination of the secrets where the outsider hands in what fits, and is
 -- refused by 7 where it does not.
 use mathlib.Core.Path.{_≡_, refl, sym, ap, _∙_}
-use mathlib.Core.Bool.{Bool, true, false, _&&_, false≢true}
+use mathlib.Core.Bool.{Bool, true, false, false≢true}
 use mathlib.Core.List.{List, [], _∷_}
 use mathlib.Core.Logic.{_⊎_, inl, inr}
 use Prim.Native.Nat.{ℕ, zero, suc, _<_}
@@ -19,7 +19,7 @@ use Rattle.linear.specs.Dot.{at, dot}
 use Rattle.scheme.specs.Setup.{Setup}
 use Rattle.scheme.specs.Answers.{inconsistent}
 use Rattle.scheme.specs.Dealing.{pairValue, expected, differs, judge, saidReject, isKept, outcome}
-use Rattle.scheme.specs.Sets.{holds, members, membersFrom, isRow, findRow, hasRow, determines}
+use Rattle.scheme.specs.Sets.{members, membersFrom, isRow, findRow, hasRow, determines}
 use Rattle.scheme.specs.Opening.{gives, opening, combine}
 use Rattle.scheme.specs.Calls.{pairValueCall, openCall, openLeft}
 use Rattle.scheme.specs.Demand.{Dealing, Member, Keeps, Done, Terms, InLimits, Handed, Array, secretsOver, Opens, Refused, by-four, by-seven}

@@ -81,17 +81,21 @@ constants ts = tab (ts .count) (ts .constant)
 abbrev pub sharesOver : {I : Type 0} → (I → Dealing) → Terms I → ℕ → List ℕ
 sharesOver D ts i = tab (ts .count) (λ t. at (D (ts .dealing t) .shares i) (ts .column t))
 
+-- The mission's "At the opening the rule-keepers present determine all positions by themselves and combine the same columns and constants": the group's
+-- members among the openers determine the secrets. Where they do not, the others can open what they please: proofs/Cases.antt has such a case
+-- (liar-opens).
+abbrev pub Present : Setup → ℕ → ℕ → Type 0
+Present S group openers = determines S (λ i. holds openers i && holds group i) ≡ true
+
 -- "Openers are the members of the opening's set. The group's members among them hand in what the combination of their kept shares over this list
 -- gives, the others anything": any numbers at all; "openers below n, lent lengths as needed".
--- present: the mission's "At the opening the rule-keepers present determine all positions by themselves and combine the same columns and constants."
--- Where they do not, the others can open what they please: proofs/Cases.antt has such a case (liar-opens).
 pub record Handed (S : Setup) (group : ℕ) {I : Type 0} (D : I → Dealing) (ts : Terms I) (openers : ℕ) (handed : List ℕ) : Type 0 where
   pub limits : InLimits S ts
   pub below : openers < 2 ^ S .n
   pub count : length handed ≡ length (members (S .n) (holds openers))
   pub by-rule : (a : ℕ) → a < length (members (S .n) (holds openers)) → holds group (at (members (S .n) (holds openers)) a) ≡ true
       → combineCall (S .p) (constants ts) (sharesOver D ts (at (members (S .n) (holds openers)) a)) ≡ given (at handed a ∷ [])
-  pub present : determines S (λ i. holds openers i && holds group i) ≡ true
+  pub present : Present S group openers
 
 -- A list handed in: the group's members among the openers hand in their combinations, every other opener i hands in `others i`.
 abbrev pub handedIn : Setup → ℕ → {I : Type 0} → (I → Dealing) → Terms I → ℕ → (ℕ → ℕ) → List ℕ
@@ -203,7 +207,7 @@ pub record FamilyFound (S : Setup) {I : Type 0} (secrets random : I → List ℕ
 pub record Demand3 : Type 1 where
   pub found : (S : Setup) (group : ℕ) {I : Type 0} (D : I → Dealing) → Done S group D → Found S group D
   pub met : (S : Setup) (group : ℕ) {I : Type 0} (D : I → Dealing) → Done S group D
-      → (ts : Terms I) → InLimits S ts → (openers : ℕ) → openers < 2 ^ S .n → determines S (λ i. holds openers i && holds group i) ≡ true
+      → (ts : Terms I) → InLimits S ts → (openers : ℕ) → openers < 2 ^ S .n → Present S group openers
       → (others : ℕ → ℕ) → Handed S group D ts openers (handedIn S group D ts openers others)
   pub honest : (S : Setup) (secrets random : List ℕ) (D : Dealing) → Honest S secrets random D → HonestFound S secrets random D
   pub families : (S : Setup) {I : Type 0} (secrets random : I → List ℕ) (D : I → Dealing) → ((t : I) → Honest S (secrets t) (random t) (D t))
