@@ -1,10 +1,10 @@
 -- Honest runs exist: whatever setup, secrets and random entries are within the limits, there is the dealing in which all follow the rules and
--- every message arrives. So demand 3's hypotheses are met by every group that determines the secrets.
+-- every message arrives, and a family of them over any index. So demand 3's hypotheses are met by every group that determines the secrets.
 use mathlib.Core.Path.{_≡_, refl, sym, ap}
 use mathlib.Core.List.{List, [], _∷_}
 use Prim.Native.Nat.{ℕ, _-_, _<_}
 use native.Mathlib.Nat.{mod-lt}
-use lib.ListN.{length, replicate, length-replicate}
+use lib.ListN.{replicate, length-replicate}
 use Rattle.base.specs.Rules.{refusal, given}
 use Rattle.base.specs.Search.{Vec}
 use Rattle.base.specs.Fill.{tab}
@@ -14,7 +14,7 @@ use Rattle.scheme.specs.Setup.{Setup, dim}
 use Rattle.scheme.specs.Answers.{yes}
 use Rattle.scheme.specs.Dealing.{partG, pairValue}
 use Rattle.scheme.specs.Calls.{dealRules, dealLeftG, dealLeftH, judgeCall, outcomeLeft, determinesCall}
-use Rattle.scheme.specs.Demand.{Dealing, Done, Honest}
+use Rattle.scheme.specs.Demand.{Dealing, Done, Honest, FamilyFound}
 use Rattle.scheme.proofs.Calls.{limits-pos, DealOk, deal-accepts, pairValue-accepts}
 use Rattle.scheme.proofs.Demand.{demand3}
 
@@ -76,3 +76,9 @@ module _ (S : Setup) (secrets random : List ℕ) (ok : DealOk S secrets random) 
 
   pub run-done : (group : ℕ) → determinesCall S group ≡ yes → Done S group (λ (t : Unit {0}). run)
   run-done group e = demand3 .honest S secrets random run run-honest .done group e
+
+-- any family of them
+pub runs-found : (S : Setup) {I : Type 0} (secrets random : I → List ℕ) (ok : (t : I) → DealOk S (secrets t) (random t))
+    → FamilyFound S secrets random (λ t. run S (secrets t) (random t) (ok t))
+runs-found S secrets random ok =
+    demand3 .families S secrets random (λ t. run S (secrets t) (random t) (ok t)) (λ t. run-honest S (secrets t) (random t) (ok t))
