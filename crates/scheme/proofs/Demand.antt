@@ -9,7 +9,7 @@ use mathlib.Core.Option.{Option, none, some, Option·none-ne-some}
 use Prim.Native.Nat.{ℕ, _+_, _-_, _*_, _%_, _^_, _≤_, _<_}
 use native.Mathlib.Nat.{mod-mod, mod-lt, mod-eq-of-lt}
 use native.Mathlib.Omega.{arith}
-use borrow.Author.Tests.{eqb-true, eq-eqb, not-true, not-false, lt-ltb, le-ltb}
+use borrow.Author.Tests.{eqb-true, eq-eqb, not-true, not-false, lt-ltb}
 use lib.Dec.{eqb, ltb}
 use lib.Arith.{digits-lt}
 use lib.ListN.{length, getD, take}
@@ -21,7 +21,7 @@ use Rattle.base.specs.Search.{every, first, First, found, missing, firstVec, Ve
 use Rattle.base.specs.Fill.{tab}
 use Rattle.base.specs.Matrix.{entry, flat, allBelow}
 use Rattle.base.proofs.Choice.{and-left, and-right}
-use Rattle.base.proofs.Search.{every-at, every-all, first-is, first-missing, firstVec-sound, firstVec-complete}
+use Rattle.base.proofs.Search.{every-at, every-all, first-is, firstVec-sound, firstVec-complete}
 use Rattle.base.proofs.Fill.{length-tab, getD-tab, tab-is, tab-ext, tab-vec, flat-at}
 use Rattle.base.proofs.Matrix.{below-is}
 use Rattle.field.specs.Prime.{Prime}
@@ -38,6 +38,7 @@ use Rattle.scheme.proofs.Calls.{not-refused, limits-prime, limits-pos, 
 use Rattle.scheme.proofs.Verdicts.{accept-means, accept-when, kept-means, kept-when}
 use Rattle.scheme.proofs.Members.{member-at, place-of, members-wide}
 use Rattle.scheme.proofs.Sets.{theRow, theRow-is, same-secrets}
+use Rattle.scheme.proofs.Certificates.{by-search}
 use Rattle.scheme.proofs.Grows.{row-grows}
 
 -- PRODUCTS WITH TABLES
@@ -310,15 +311,14 @@ module _ (S : Setup) (group : ℕ) {I : Type 0} (D : I → Dealing) (done : Done
             ∙ sym (whole-gives i (l, q))
 
     -- 6 does not occur: the openers have a row wherever the group's members among them have one
-    rows-there : first (λ k. not (hasRow S (holds openers) k)) (S .l) ≡ S .l
+    openers-determine : determines S (holds openers) ≡ true
     unfolding determines both
-    rows-there =
-        first-missing _ (S .l)
-        (λ k h. ap not (row-grows S both (holds openers) k big (λ i l t. and-left (holds openers i) (holds group i) t) (every-at (S .l) (hasRow S both) (hand .present) k h)))
+    openers-determine =
+        every-all (S .l) (hasRow S (holds openers))
+        (λ k h. row-grows S both (holds openers) k big (λ i l t. and-left (holds openers i) (holds group i) t) (every-at (S .l) (hasRow S both) (hand .present) k h))
 
     opening-is : opening S (holds openers) handed ≡ openedBy (S .l) (firstVec (S .p) (dim S) (gives S (members (S .n) (holds openers)) handed))
-    unfolding opening
-    opening-is = rw (rows-there, le-ltb (S .l) (S .l) (omega arith))
+    opening-is = by-search S (holds openers) handed openers-determine
 
     set-fits : SetOk S openers
     set-fits = record { setup = ok .setup; inside = hand .below }

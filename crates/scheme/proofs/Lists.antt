@@ -11,19 +11,21 @@ use borrow.Author.Tests.{eqb-false}
 use lib.ListN.{getD}
 use Rattle.base.specs.Rules.{Answer, given}
 use Rattle.base.specs.Sum.{sum, bit, unit}
-use Rattle.base.specs.Search.{every, first, firstFrom, firstOf, firstVec}
+use Rattle.base.specs.Search.{every, first, firstFrom, firstOf, firstVec, Vec}
 use Rattle.base.specs.Fill.{tab, tabFrom}
 use Rattle.base.specs.Matrix.{allBelow}
 use Rattle.field.specs.Fields.{isField}
 use Rattle.linear.specs.Dot.{at, dot}
-use Rattle.scheme.specs.Setup.{Setup}
+use Rattle.scheme.specs.Setup.{Setup, Limits}
 use Rattle.scheme.specs.Answers.{inconsistent}
-use Rattle.scheme.specs.Dealing.{pairValue, expected, differs, judge, saidReject, isKept, outcome}
+use Rattle.scheme.specs.Dealing.{place, dealtEntry, dealt, pairValue, expected, differs, judge, saidReject, isKept, outcome}
 use Rattle.scheme.specs.Sets.{members, membersFrom, isRow, findRow, hasRow, determines}
 use Rattle.scheme.specs.Opening.{gives, opening, combine}
 use Rattle.scheme.specs.Calls.{pairValueCall, openCall, openLeft}
-use Rattle.scheme.specs.Demand.{Dealing, Member, Keeps, Done, Terms, InLimits, Handed, Array, secretsOver, Opens, Refused, by-four, by-seven}
+use Rattle.scheme.specs.Demand.{Dealing, Member, Keeps, Done, Terms, InLimits, Handed, handedIn, Array, secretsOver, Opens, Refused, by-four, by-seven, FamilyFound}
+use Rattle.scheme.proofs.Calls.{vec-of, DealOk}
 use Rattle.scheme.proofs.Demand.{demand3}
+use Rattle.scheme.proofs.Honest.{run, runs-found}
 
 -- p 7, ℓ 2, e 1, n 4, the points matrix
 abbrev pub four : Setup
@@ -152,6 +154,41 @@ found-combination = go (demand3 .found four 7 dealings done .opens terms 15 (4 �
     go (inl r) = sym (r .buffer) ∙ opened .buffer
     go (inr (by-four e k)) = absurd (eqb-false 4 0 refl (answered _ e))
     go (inr (by-seven e k)) = absurd (eqb-false 7 0 refl (answered _ e))
+
+-- WHERE ALL FOLLOW THE RULES: two dealings from the same secrets and random entries, and the same list, opened by the group
+abbrev pub secrets : Bool → List ℕ
+secrets false = 3 ∷ 5 ∷ 1 ∷ 2 ∷ []
+secrets true = 6 ∷ 4 ∷ 2 ∷ 0 ∷ []
+
+abbrev pub random : Bool → List ℕ
+random false = 4 ∷ 6 ∷ 0 ∷ 5 ∷ 1 ∷ []
+random true = 1 ∷ 3 ∷ 5 ∷ 1 ∷ 2 ∷ []
+
+pub inputs : (t : Bool) → DealOk four (secrets t) (random t)
+unfolding every allBelow isField
+inputs t = record { setup = record { limits = within; matrix = vec-of 7 12 (four .M) (omega arith) refl refl }; vectors = vectors t; entries = entries t }
+  where
+    within : Limits four
+    within = record { field = refl; secret = (omega arith, omega arith); random = (omega arith, omega arith); holders = (omega arith, omega arith) }
+
+    vectors : (t : Bool) → Vec 7 4 (secrets t)
+    vectors false = vec-of 7 4 (secrets false) (omega arith) refl refl
+    vectors true = vec-of 7 4 (secrets true) (omega arith) refl refl
+
+    entries : (t : Bool) → Vec 7 5 (random t)
+    entries false = vec-of 7 5 (random false) (omega arith) refl refl
+    entries true = vec-of 7 5 (random true) (omega arith) refl refl
+
+abbrev pub runs : Bool → Dealing
+runs t = run four (secrets t) (random t) (inputs t)
+
+pub family : FamilyFound four secrets random runs
+family = runs-found four secrets random inputs
+
+pub honest-opened : Opens four 7 (handedIn four 7 runs terms 7 (λ i. 0)) (0 ∷ 0 ∷ []) (5 ∷ 2 ∷ [])
+unfolding sum bit unit every firstOf firstVec tab tabFrom allBelow isField dot place dealtEntry dealt members membersFrom isRow findRow hasRow determines combine
+honest-opened =
+    family .opens 7 refl terms 7 _ (0 ∷ 0 ∷ []) (demand3 .met four 7 runs (family .done 7 refl) terms limits 7 (omega arith) refl (λ i. 0)) refl (λ i m. m)
 
 -- THE LIMITS OF A LIST: 64 terms are within them, 65 and none are not
 abbrev pub many : ℕ → Terms Bool

@@ -193,7 +193,7 @@ pub record HonestFound (S : Setup) (secrets random : List ℕ) (D : Dealing) : T
   pub vectors : (k b : ℕ) → k < S .l → b < S .l → at (column (arrayDealt S secrets random) b) k ≡ entry (S .l) secrets b k
 
 -- Any family of such dealings, on one setup: every group that determines the secrets has done what demand 3 asks, the arrays found are those dealt, and
--- so every combination opens to that combination of the arrays dealt.
+-- so every combination that members of the group open gives that combination of the arrays dealt.
 pub record FamilyFound (S : Setup) {I : Type 0} (secrets random : I → List ℕ) (D : I → Dealing) : Type 0 where
   pub done : (group : ℕ) → determinesCall S group ≡ yes → Done S group D
   pub arrays : (group : ℕ) → determinesCall S group ≡ yes → (F : Found S group D) (t : I) → F .array t ≡ arrayDealt S (secrets t) (random t)
@@ -202,16 +202,19 @@ pub record FamilyFound (S : Setup) {I : Type 0} (secrets random : I → List ℕ
       → ((i : ℕ) → Member S openers i → Member S group i)
       → Opens S openers handed out (secretsOver S (λ t. arrayDealt S (secrets t) (random t)) ts)
 
--- DEMAND 3, whatever the dealers and all others sent; that every list within the limits is handed in somehow, whatever the others hand in, so that
--- `found` speaks of it; and the mission's demand 2: "Secrets dealt come back when any set that determines them opens the dealt shares"
+-- DEMAND 3
 pub record Demand3 : Type 1 where
+  -- demand 3 itself, whatever the dealers and all others sent
   pub found : (S : Setup) (group : ℕ) {I : Type 0} (D : I → Dealing) → Done S group D → Found S group D
+  -- `found` speaks of every list within the limits: whatever the others hand in, there is a list handed in
   pub met : (S : Setup) (group : ℕ) {I : Type 0} (D : I → Dealing) → Done S group D
       → (ts : Terms I) → InLimits S ts → (openers : ℕ) → openers < 2 ^ S .n → Present S group openers
       → (others : ℕ → ℕ) → Handed S group D ts openers (handedIn S group D ts openers others)
+  -- where all follow the rules and every message arrives: one dealing, and any family of dealings
   pub honest : (S : Setup) (secrets random : List ℕ) (D : Dealing) → Honest S secrets random D → HonestFound S secrets random D
   pub families : (S : Setup) {I : Type 0} (secrets random : I → List ℕ) (D : I → Dealing) → ((t : I) → Honest S (secrets t) (random t) (D t))
       → FamilyFound S secrets random D
+  -- the mission's demand 2: "Secrets dealt come back when any set that determines them opens the dealt shares"
   pub back : (S : Setup) (secrets random : List ℕ) (D : Dealing) → Honest S secrets random D → (s : ℕ) → determinesCall S s ≡ yes
       → (b : ℕ) → b < S .l → (out : List ℕ) → length out ≡ S .l
       → Opens S s (tab (length (members (S .n) (holds s))) (λ a. at (D .shares (at (members (S .n) (holds s)) a)) b)) out
