@@ -20,7 +20,7 @@ use Rattle.field.proofs.Fields.{field-prime}
 use Rattle.scheme.specs.Setup.{Setup, dim, Limits, IsSetup}
 use Rattle.scheme.specs.Answers.{answerBy, leftBy}
 use Rattle.scheme.specs.Sets.{holds, members}
-use Rattle.scheme.specs.Calls.{outside, limits, size, elements, beyond, pointsRules, dealRules, dealAllRules, pairValueRules, judgeRules, outcomeRules, rehearseRules, setRules, judgeSetRules, openRules, combineRules}
+use Rattle.scheme.specs.Calls.{outside, limits, size, elements, beyond, pointsRules, dealInputs, dealElements, dealRules, dealAllRules, pairValueRules, judgeRules, outcomeRules, rehearseRules, setRules, judgeSetRules, openRules, combineRules}
 
 -- an answer with number 0 was not refused
 pub not-refused : (r : ℕ) (a : Answer) (vs : List ℕ) → answerBy r a ≡ given vs → (r ≡ 0) × (a ≡ given vs)
@@ -95,6 +95,14 @@ refusal-after [] m c = refl
 refusal-after ((k when true) ∷ l) m c = absurd (false≢true (sym (c .0)))
 refusal-after ((k when false) ∷ l) m c = refusal-after l m (c .1)
 
+pub clear-both : (l m : List Rule) → Clear l → Clear m → Clear (l ++ m)
+clear-both [] m c d = d
+clear-both ((k when b) ∷ l) m c d = (c .0, clear-both l m (c .1) d)
+
+-- a table whose rules after the limits do not hold
+past-limits : (S : Setup) (m : List Rule) → Limits S → Clear m → refusal (limits S ++ m) ≡ 0
+past-limits S m L d = let c = limits-clear S L in none-applies (limits S ++ m) (c .field, (c .secret, (c .random, (c .holders, d))))
+
 -- POINTS
 pub record PointsOk (S : Setup) : Type 0 where
   pub limits : Limits S
@@ -110,6 +118,13 @@ points-ok S e =
       room = size-is (S .M) _ (r .0);
       fits = ltb-false (S .p) (dim S + S .n) (r .1 .0);
     }
+
+pub points-accepts : (S : Setup) → PointsOk S → refusal (pointsRules S) ≡ 0
+points-accepts S k =
+    past-limits S (size (S .M) (S .n * dim S) ∷ (15 when ltb (S .p) (dim S + S .n)) ∷ []) (k .limits) (
+      size-clear (S .M) _ (k .room),
+      (le-ltb (S .p) (dim S + S .n) (k .fits), tt),
+    )
 
 -- DEAL AND DEAL TO ALL
 pub record DealOk (S : Setup) (secrets random : List ℕ) : Type 0 where
@@ -149,6 +164,38 @@ dealAll-ok S secrets random gs hs e =
       size-is gs _ (r .1 .1 .1 .0),
       size-is hs _ (r .1 .1 .1 .1 .0),
     )
+
+-- the rules that both have, with whatever stands between and behind them
+dealing-accepts : (S : Setup) (secrets random : List ℕ) (k m : List Rule) → DealOk S secrets random → Clear k → Clear m
+    → refusal (dealInputs S secrets random ++ (k ++ (dealElements S secrets random ++ m))) ≡ 0
+dealing-accepts S secrets random k m ok c d =
+    past-limits S
+    (size (S .M) (S .n * dim S) ∷ size secrets (S .l * S .l) ∷ size random (dim S * dim S - S .l * S .l) ∷ k ++ (dealElements S secrets random ++ m))
+    (ok .setup .limits) (
+      size-clear (S .M) _ (ok .setup .matrix .size),
+      (
+        size-clear secrets _ (ok .vectors .size),
+        (
+          size-clear random _ (ok .entries .size),
+          clear-both k (dealElements S secrets random ++ m) c
+              (clear-both (dealElements S secrets random) m (
+                elements-clear (S .p) _ (S .M) (ok .setup .matrix),
+                (elements-clear (S .p) _ secrets (ok .vectors), (elements-clear (S .p) _ random (ok .entries), tt)),
+              ) d),
+        ),
+      ),
+    )
+
+pub deal-accepts : (S : Setup) (secrets random : List ℕ) (i : ℕ) (g h : List ℕ) → DealOk S secrets random → length g ≡ dim S → length h ≡ dim S → i < S .n
+    → refusal (dealRules S secrets random i g h) ≡ 0
+deal-accepts S secrets random i g h ok a b l =
+    dealing-accepts S secrets random (size g (dim S) ∷ size h (dim S) ∷ []) ((5 when leb (S .n) i) ∷ []) ok
+    (size-clear g _ a, (size-clear h _ b, tt)) (lt-leb (S .n) i l, tt)
+
+pub dealAll-accepts : (S : Setup) (secrets random gs hs : List ℕ) → DealOk S secrets random → length gs ≡ S .n * dim S → length hs ≡ S .n * dim S
+    → refusal (dealAllRules S secrets random gs hs) ≡ 0
+dealAll-accepts S secrets random gs hs ok a b =
+    dealing-accepts S secrets random (size gs (S .n * dim S) ∷ size hs (S .n * dim S) ∷ []) [] ok (size-clear gs _ a, (size-clear hs _ b, tt)) tt
 
 -- PAIR VALUE
 pub record PairValueOk (S : Setup) (g : List ℕ) (i : ℕ) : Type 0 where
@@ -298,6 +345,24 @@ rehearse-ok S gs hs e =
       columns = vec-of (S .p) _ hs (limits-pos S L) (r .1 .1 .0) (r .1 .1 .1 .1 .1 .0);
     }
 
+pub rehearse-accepts : (S : Setup) (gs hs : List ℕ) → RehearseOk S gs hs → refusal (rehearseRules S gs hs) ≡ 0
+rehearse-accepts S gs hs k =
+    past-limits S
+    (size (S .M) (S .n * dim S) ∷ size gs (S .n * dim S) ∷ size hs (S .n * dim S) ∷ elements (S .p) (S .M) ∷ elements (S .p) gs ∷ elements (S .p) hs ∷ [])
+    (k .setup .limits) (
+      size-clear (S .M) _ (k .setup .matrix .size),
+      (
+        size-clear gs _ (k .rows .size),
+        (
+          size-clear hs _ (k .columns .size),
+          (
+            elements-clear (S .p) _ (S .M) (k .setup .matrix),
+            (elements-clear (S .p) _ gs (k .rows), (elements-clear (S .p) _ hs (k .columns), tt)),
+          ),
+        ),
+      ),
+    )
+
 -- SETS
 pub record SetOk (S : Setup) (s : ℕ) : Type 0 where
   pub setup : IsSetup S
@@ -347,6 +412,16 @@ judgeSet-ok S s q out e =
       },
       size-is out 32 (r .1 .0),
       leb-false (S .l) q (r .1 .1 .1 .1 .0),
+    )
+
+pub judgeSet-accepts : (S : Setup) (s q : ℕ) (out : List ℕ) → SetOk S s → length out ≡ 32 → q < S .l → refusal (judgeSetRules S s q out) ≡ 0
+judgeSet-accepts S s q out k room l =
+    past-limits S (size (S .M) (S .n * dim S) ∷ size out 32 ∷ elements (S .p) (S .M) ∷ (5 when beyond (S .n) s) ∷ (5 when leb (S .l) q) ∷ []) (k .setup .limits) (
+      size-clear (S .M) _ (k .setup .matrix .size),
+      (
+        size-clear out 32 room,
+        (elements-clear (S .p) _ (S .M) (k .setup .matrix), (lt-leb (2 ^ S .n) s (k .inside), (lt-leb (S .l) q l, tt))),
+      ),
     )
 
 -- OPEN

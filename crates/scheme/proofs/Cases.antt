@@ -1,10 +1,11 @@
 -- The cases that document 01 marks ● ("The holder program on paper"), on its example setup: the lines of one table, proved together from the
--- definitions; and the case of the reviewer's condition on the openers.
+-- definitions; and the case that shows why the rule-keepers present have to determine the secrets by themselves.
 use mathlib.Core.Path.{_≡_, refl}
 use mathlib.Core.Bool.{false, _&&_}
 use mathlib.Core.List.{List, [], _∷_, _++_, map}
 use mathlib.Core.Option.{Option·getD}
 use Prim.Native.Nat.{ℕ}
+use Rattle.base.specs.Choice.{pick}
 use Rattle.base.specs.Rules.{Answer}
 use Rattle.base.specs.Sum.{sum, bit, unit}
 use Rattle.base.specs.Search.{every, first, firstFrom, firstOf, firstVec}
@@ -16,10 +17,11 @@ use Rattle.linear.specs.Dot.{dot}
 use Rattle.linear.specs.Polynomial.{point, lagrange, basis, minus}
 use Rattle.scheme.specs.Setup.{Setup}
 use Rattle.scheme.specs.Points.{pointsMatrix}
+use Rattle.scheme.specs.Answers.{yes}
 use Rattle.scheme.specs.Dealing.{place, dealtEntry, dealt, partG, partH, pairValue, expected}
 use Rattle.scheme.specs.Sets.{holds, members, membersFrom, isRow, findRow, hasRow, isSweep, findSweep, determines}
 use Rattle.scheme.specs.Opening.{gives, opening, combine}
-use Rattle.scheme.specs.Calls.{pointsLeft, dealLeftG, dealLeftH, pairValueCall, openCall, openLeft}
+use Rattle.scheme.specs.Calls.{pointsLeft, dealLeftG, dealLeftH, pairValueCall, determinesCall, openCall, openLeft}
 
 -- "p 7, ℓ 1, e 1, n 3, points rows (6,2), (5,3), (4,4), F rows (3,1), (5,2)"
 abbrev pub ex : Setup
@@ -32,9 +34,9 @@ g i = dealLeftG ex (3 ∷ []) (1 ∷ 5 ∷ 2 ∷ []) i (0 ∷ 0 ∷ []) (0 ∷ 0
 abbrev pub h : ℕ → List ℕ
 h i = dealLeftH ex (3 ∷ []) (1 ∷ 5 ∷ 2 ∷ []) i (0 ∷ 0 ∷ []) (0 ∷ 0 ∷ [])
 
--- a call's number, then its values; of an opening also the buffer, which holds 0 before
+-- a call's answer: 1 where it answered and 0 where it was refused, its number, its values; of an opening also the buffer, which holds 0 before
 abbrev pub line : Answer → List ℕ
-line a = a .number ∷ a .values
+line a = pick (a .answered) 1 0 ∷ a .number ∷ a .values
 
 abbrev pub opens : ℕ → List ℕ → List ℕ
 opens s xs = line (openCall ex s xs (0 ∷ [])) ++ openLeft ex s xs (0 ∷ [])
@@ -52,24 +54,32 @@ table =
     (pointsLeft (record { p = 7; l = 1; e = 1; n = 3; M = 0 ∷ 0 ∷ 0 ∷ 0 ∷ 0 ∷ 0 ∷ [] }) is 6 ∷ 2 ∷ 5 ∷ 3 ∷ 4 ∷ 4 ∷ [])
     ∷ (g 0 is 0 ∷ 3 ∷ []) ∷ (g 1 is 2 ∷ 4 ∷ []) ∷ (g 2 is 4 ∷ 5 ∷ [])
     ∷ (h 0 is 6 ∷ 6 ∷ []) ∷ (h 1 is 4 ∷ 3 ∷ []) ∷ (h 2 is 2 ∷ 0 ∷ [])
-    ∷ (line (pairValueCall ex (g 0) 1) is 0 ∷ 2 ∷ []) ∷ (line (pairValueCall ex (g 1) 1) is 0 ∷ 1 ∷ []) ∷ (line (pairValueCall ex (g 2) 1) is 0 ∷ 0 ∷ [])
-    ∷ (opens 5 (0 ∷ 4 ∷ []) is 0 ∷ 3 ∷ [])
+    ∷ (line (pairValueCall ex (g 0) 1) is 1 ∷ 0 ∷ 2 ∷ []) ∷ (line (pairValueCall ex (g 1) 1) is 1 ∷ 0 ∷ 1 ∷ []) ∷ (line (pairValueCall ex (g 2) 1) is 1 ∷ 0 ∷ 0 ∷ [])
+    ∷ (opens 5 (0 ∷ 4 ∷ []) is 1 ∷ 0 ∷ 3 ∷ [])
     ∷ (Option·getD (findRow ex (holds 5) 0) [] is 2 ∷ 6 ∷ [])
-    ∷ (opens 7 (0 ∷ 2 ∷ 4 ∷ []) is 0 ∷ 3 ∷ [])
-    ∷ (opens 7 (0 ∷ 2 ∷ 5 ∷ []) is 7 ∷ 0 ∷ [])
-    ∷ (opens 1 (0 ∷ []) is 6 ∷ 0 ∷ 0 ∷ [])
+    ∷ (opens 7 (0 ∷ 2 ∷ 4 ∷ []) is 1 ∷ 0 ∷ 3 ∷ [])
+    ∷ (opens 7 (0 ∷ 2 ∷ 5 ∷ []) is 0 ∷ 7 ∷ 0 ∷ [])
+    ∷ (opens 1 (0 ∷ []) is 0 ∷ 6 ∷ 0 ∷ 0 ∷ [])
     ∷ (Option·getD (findSweep ex (holds 1) 0) [] is 1 ∷ 4 ∷ [])
-    ∷ (opens 0 [] is 6 ∷ 0 ∷ 0 ∷ [])
-    ∷ (opens 7 (0 ∷ 4 ∷ 1 ∷ []) is 0 ∷ 6 ∷ [])
+    ∷ (opens 0 [] is 0 ∷ 6 ∷ 0 ∷ 0 ∷ [])
+    ∷ (opens 7 (0 ∷ 4 ∷ 1 ∷ []) is 1 ∷ 0 ∷ 6 ∷ [])
     ∷ []
 
 pub cases : map (λ (c : Case). c .gives) table ≡ map (λ (c : Case). c .wanted) table
 unfolding sum bit unit every first firstFrom firstOf firstVec tab tabFrom allBelow inverseOf isField dot point lagrange basis minus pointsMatrix place dealtEntry dealt partG partH pairValue expected members membersFrom isRow findRow hasRow isSweep findSweep determines gives opening combine
 cases = refl
 
--- Why demand 3 asks that the group's members among the openers determine the secrets (Demand.antt, Handed): holders 0 and 1 are a group that
--- determines them and kept the shares 0 and 2 of the secret 3; holder 2 stands outside and hands in 5 for its 4. Holders 1 and 2, of whom only holder 1
--- is in the group, open to 0 and not to 3.
+-- Why the mission's demand 3 asks that "the rule-keepers present determine all positions by themselves" (Demand.antt, Present): holders 0 and 1 are a
+-- group that determines the secret 3, and kept the shares 0 and 2 of it. Holder 2 stands outside and hands in 5 for its 4. Holders 1 and 2 determine the
+-- secret too, but open to 0: of them only holder 1 is in the group, and alone it determines nothing.
+pub group-determines : determinesCall ex 3 ≡ yes
+unfolding sum bit unit every firstOf firstVec allBelow isField dot members membersFrom isRow findRow hasRow determines
+group-determines = refl
+
+pub openers-determine : determinesCall ex 6 ≡ yes
+unfolding sum bit unit every firstOf firstVec allBelow isField dot members membersFrom isRow findRow hasRow determines
+openers-determine = refl
+
 pub liar-opens : openLeft ex 6 (2 ∷ 5 ∷ []) (1 ∷ []) ≡ 0 ∷ []
 unfolding sum bit unit every first firstFrom firstOf firstVec tab tabFrom allBelow isField dot members membersFrom isRow findRow hasRow gives opening
 liar-opens = refl

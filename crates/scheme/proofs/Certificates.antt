@@ -206,7 +206,8 @@ module _ (S : Setup) (X : ℕ → Bool) (xs : List ℕ) where
           ∙ mod-eq-of-lt (okw .small q (omega arith))
           ∙ sym (getD-take (S .l) w q 0 l)
 
-  by-search : determines S X ≡ true → opening S X xs ≡ openedBy (S .l) (firstVec (S .p) (dim S) (gives S (members (S .n) X) xs))
+  -- determined: what the search for a vector gives
+  pub by-search : determines S X ≡ true → opening S X xs ≡ openedBy (S .l) (firstVec (S .p) (dim S) (gives S (members (S .n) X) xs))
   unfolding opening determines
   by-search det = rw (first-missing _ (S .l) (λ q l. ap not (every-at (S .l) (hasRow S X) det q l)), le-ltb (S .l) (S .l) (omega arith))
 

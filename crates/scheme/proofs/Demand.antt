@@ -6,10 +6,10 @@ use mathlib.Core.Bool.{Bool, true, false, _&&_, not, false≢true}
 use mathlib.Core.List.{List, [], _∷_}
 use mathlib.Core.Logic.{_⊎_, inl, inr}
 use mathlib.Core.Option.{Option, none, some, Option·none-ne-some}
-use Prim.Native.Nat.{ℕ, _+_, _-_, _*_, _%_, _≤_, _<_}
+use Prim.Native.Nat.{ℕ, _+_, _-_, _*_, _%_, _^_, _≤_, _<_}
 use native.Mathlib.Nat.{mod-mod, mod-lt, mod-eq-of-lt}
 use native.Mathlib.Omega.{arith}
-use borrow.Author.Tests.{eqb-true, eq-eqb, not-true, not-false, lt-ltb, le-ltb}
+use borrow.Author.Tests.{eqb-true, eq-eqb, not-true, not-false, lt-ltb}
 use lib.Dec.{eqb, ltb}
 use lib.Arith.{digits-lt}
 use lib.ListN.{length, getD, take}
@@ -21,8 +21,8 @@ use Rattle.base.specs.Search.{every, first, First, found, missing, firstVec, Ve
 use Rattle.base.specs.Fill.{tab}
 use Rattle.base.specs.Matrix.{entry, flat, allBelow}
 use Rattle.base.proofs.Choice.{and-left, and-right}
-use Rattle.base.proofs.Search.{every-at, every-all, first-is, first-missing, firstVec-sound, firstVec-complete}
-use Rattle.base.proofs.Fill.{length-tab, getD-tab, tab-is, tab-vec, flat-at}
+use Rattle.base.proofs.Search.{every-at, every-all, first-is, firstVec-sound, firstVec-complete}
+use Rattle.base.proofs.Fill.{length-tab, getD-tab, tab-is, tab-ext, tab-vec, flat-at}
 use Rattle.base.proofs.Matrix.{below-is}
 use Rattle.field.specs.Prime.{Prime}
 use Rattle.linear.specs.Dot.{at, dot}
@@ -33,11 +33,12 @@ use Rattle.scheme.specs.Dealing.{place, dealtEntry, dealt, partG, partH,
 use Rattle.scheme.specs.Sets.{holds, members, rowAt, hasRow, determines}
 use Rattle.scheme.specs.Opening.{gives, opening, openedBy, combine}
 use Rattle.scheme.specs.Calls.{decide, judgeCall, judgeRules, outcomeRules, determinesCall, setRules, openRules, openCall, openLeft, openAnswer, combineRules, combineCall, pairValueRules, dealRules}
-use Rattle.scheme.specs.Demand.{Dealing, Member, Keeps, Done, Terms, constants, sharesOver, Handed, Array, column, IsArray, AgreesAt, Agrees, ExactlyOne, secretsOver, Opens, Refused, by-four, by-seven, Found, Honest, arrayDealt, HonestFound, Demand3}
+use Rattle.scheme.specs.Demand.{Dealing, Member, Keeps, Done, Terms, InLimits, constants, sharesOver, Present, Handed, handedIn, Array, column, IsArray, AgreesAt, Agrees, ExactlyOne, secretsOver, Opens, Refused, by-four, by-seven, Found, Honest, arrayDealt, HonestFound, FamilyFound, Demand3}
 use Rattle.scheme.proofs.Calls.{not-refused, limits-prime, limits-pos, set-ok, SetOk, judge-accepts, outcome-ok, outcome-accepts, open-by-shares, combine-accepts, DealOk, deal-ok, below-vec}
 use Rattle.scheme.proofs.Verdicts.{accept-means, accept-when, kept-means, kept-when}
 use Rattle.scheme.proofs.Members.{member-at, place-of, members-wide}
 use Rattle.scheme.proofs.Sets.{theRow, theRow-is, same-secrets}
+use Rattle.scheme.proofs.Certificates.{by-search}
 use Rattle.scheme.proofs.Grows.{row-grows}
 
 -- PRODUCTS WITH TABLES
@@ -52,6 +53,13 @@ unfolding combine
 combine-tab p m c x =
     ap (λ k. dot k (at (tab m c)) (at (tab m x)) % p) (length-tab m c)
     ∙ ap (λ z. z % p) (dot-tab m (at (tab m c)) x ∙ dot-comm m (at (tab m c)) x ∙ dot-tab m x c ∙ dot-comm m x c)
+
+-- one term with constant 1
+combine-one : (p x : ℕ) → x < p → combine p (tab 1 (λ _. 1)) (tab 1 (λ _. x)) ≡ x
+combine-one p x l = combine-tab p 1 (λ _. 1) (λ _. x) ∙ ap (λ z. z % p) (single x) ∙ mod-eq-of-lt l
+  where
+    single : (x : ℕ) → dot 1 (λ _. 1) (λ _. x) ≡ x
+    single x = unfold dot sum in omega arith
 
 -- vectors that agree below l begin alike
 takes : (l : ℕ) (v w : List ℕ) → l ≤ length v → l ≤ length w → ((k : ℕ) → k < l → at v k ≡ at w k) → take l v ≡ take l w
@@ -138,6 +146,9 @@ module _ (S : Setup) (group : ℕ) {I : Type 0} (D : I → Dealing) (done : Done
     share-at : (b : ℕ) → b < S .l → at (D t .shares i) b ≡ at (D t .g i) b
     share-at b l = ap (λ v. at v b) shares-are ∙ getD-take (S .l) (D t .g i) b 0 l
 
+    share-small : (b : ℕ) → b < S .l → at (D t .shares i) b < S .p
+    share-small b l = rw (share-at b l) (part-g .small b (omega arith))
+
   sent : (t : I) (i j : ℕ) → Member S group i → Member S group j → at (D t .values i) j ≡ pairValue S (D t .g j) i
   sent t i j mi mj = sym (one-value _ _ (not-refused (refusal (pairValueRules S (D t .g j) i)) _ _ (done .delivered t i j mi mj) .1))
 
@@ -211,6 +222,36 @@ module _ (S : Setup) (group : ℕ) {I : Type 0} (D : I → Dealing) (done : Done
   array-at t b k h l =
       ap (λ c. at c k) (array-column t b h) ∙ getD-take (S .l) (vectorOf t b) k 0 l ∙ getD-tab (dim S) _ 0 k (omega arith)
 
+  -- WHAT IS HANDED IN
+  module _ (ts : Terms I) (lim : InLimits S ts) where
+    long : length (constants ts) ≡ ts .count
+    long = length-tab (ts .count) (ts .constant)
+
+    -- a member's call for its combination answers
+    combined : (i : ℕ) → Member S group i
+        → combineCall (S .p) (constants ts) (sharesOver D ts i) ≡ given (combine (S .p) (constants ts) (sharesOver D ts i) ∷ [])
+    combined i m =
+        rw (combine-accepts (S .p) (constants ts) (sharesOver D ts i)
+        (record {
+          field = ok .setup .limits .field;
+          constants = rw long (tab-vec (S .p) (ts .count) (ts .constant) (λ t l. lim .constants t l));
+          shares = rw long (tab-vec (S .p) (ts .count) _ (λ t l. share-small (ts .dealing t) i m (ts .column t) (lim .columns t l)));
+          few = omega (arith, long, lim .some-terms .1);
+        }) (omega (arith, long, lim .some-terms .0))) refl
+
+    met′ : (openers : ℕ) → openers < 2 ^ S .n → Present S group openers → (others : ℕ → ℕ)
+        → Handed S group D ts openers (handedIn S group D ts openers others)
+    met′ openers below present others =
+        record {
+          limits = lim;
+          below = below;
+          count = length-tab _ _;
+          by-rule = λ a l t.
+              combined (at (members (S .n) (holds openers)) a) (member-at (S .n) (holds openers) a l .0, t)
+              ∙ ap (λ z. given (z ∷ [])) (sym (getD-tab (length (members (S .n) (holds openers))) _ 0 a l ∙ rw t refl));
+          present = present;
+        }
+
   -- OPENINGS
   module _ (ts : Terms I) (openers : ℕ) (handed out : List ℕ) (hand : Handed S group D ts openers handed) (room : length out ≡ S .l) where
     both : ℕ → Bool
@@ -230,12 +271,8 @@ module _ (S : Setup) (group : ℕ) {I : Type 0} (D : I → Dealing) (done : Done
         ∙ dot-mod-right (S .p) (ts .count) (ts .constant) _ _
         (λ t l. ap (λ z. z % S .p) (dot-comm (dim S) (behind (ts .dealing t) (ts .column t)) (row S i))
         ∙ behind-gives (ts .dealing t) (ts .column t) (hand .limits .columns t l) i mi
-        ∙ sym (mod-eq-of-lt (share-small t l)))
+        ∙ sym (mod-eq-of-lt (share-small (ts .dealing t) i mi (ts .column t) (hand .limits .columns t l))))
         ∙ sym (combine-tab (S .p) (ts .count) (ts .constant) _)
-      where
-        share-small : (t : ℕ) → t < ts .count → at (D (ts .dealing t) .shares i) (ts .column t) < S .p
-        share-small t l =
-            rw (share-at (ts .dealing t) i mi (ts .column t) (hand .limits .columns t l)) (part-g (ts .dealing t) i mi .small (ts .column t) (omega (arith, hand .limits .columns t l)))
 
     whole-secret : (k : ℕ) → k < S .l → whole k % S .p ≡ at xs k
     unfolding whole xs
@@ -274,15 +311,14 @@ module _ (S : Setup) (group : ℕ) {I : Type 0} (D : I → Dealing) (done : Done
             ∙ sym (whole-gives i (l, q))
 
     -- 6 does not occur: the openers have a row wherever the group's members among them have one
-    rows-there : first (λ k. not (hasRow S (holds openers) k)) (S .l) ≡ S .l
+    openers-determine : determines S (holds openers) ≡ true
     unfolding determines both
-    rows-there =
-        first-missing _ (S .l)
-        (λ k h. ap not (row-grows S both (holds openers) k big (λ i l t. and-left (holds openers i) (holds group i) t) (every-at (S .l) (hasRow S both) (hand .present) k h)))
+    openers-determine =
+        every-all (S .l) (hasRow S (holds openers))
+        (λ k h. row-grows S both (holds openers) k big (λ i l t. and-left (holds openers i) (holds group i) t) (every-at (S .l) (hasRow S both) (hand .present) k h))
 
     opening-is : opening S (holds openers) handed ≡ openedBy (S .l) (firstVec (S .p) (dim S) (gives S (members (S .n) (holds openers)) handed))
-    unfolding opening
-    opening-is = rw (rows-there, le-ltb (S .l) (S .l) (omega arith))
+    opening-is = by-search S (holds openers) handed openers-determine
 
     set-fits : SetOk S openers
     set-fits = record { setup = ok .setup; inside = hand .below }
@@ -342,10 +378,7 @@ module _ (S : Setup) (group : ℕ) {I : Type 0} (D : I → Dealing) (done : Done
       → secretsOver S arrayOf (record { count = 1; constant = λ _. 1; dealing = λ _. t; column = λ _. b }) ≡ column (arrayOf t) b
   one-column′ t b h =
       sym (tab-is (S .l) _ 0 (column (arrayOf t) b) (array-is t .each b h .size)
-      (λ k l. sym (combine-tab (S .p) 1 (λ _. 1) (λ _. at (column (arrayOf t) b) k) ∙ ap (λ z. z % S .p) (single (at (column (arrayOf t) b) k)) ∙ mod-eq-of-lt (array-is t .each b h .small k l))))
-    where
-      single : (x : ℕ) → dot 1 (λ _. 1) (λ _. x) ≡ x
-      single x = unfold dot sum in omega arith
+      (λ k l. sym (combine-one (S .p) (at (column (arrayOf t) b) k) (array-is t .each b h .small k l))))
 
   found′ : Found S group D
   unfolding xs
@@ -537,37 +570,20 @@ module _ (S : Setup) (secrets random : List ℕ) (D : Dealing) (hon : Honest S s
       big′ : 1 < S .p
       big′ = prime s e .big
 
-      share-small : (i : ℕ) → Member S s i → at (D .shares i) b < S .p
-      share-small i m = rw (share-at S s all (done′ s e) tt i m b h) (part-g′ i (m .0) .small b (omega arith))
-
-      once : (x : ℕ) → x < S .p → combineCall (S .p) (tab 1 (λ _. 1)) (tab 1 (λ _. x)) ≡ given (x ∷ [])
-      once x l = rw (fine, combine-tab (S .p) 1 (λ _. 1) (λ _. x)) (ap (λ z. given (z ∷ [])) (ap (λ z. z % S .p) (single x) ∙ mod-eq-of-lt l))
-        where
-          single : (x : ℕ) → dot 1 (λ _. 1) (λ _. x) ≡ x
-          single x = unfold dot sum in omega arith
-
-          one-long : length (tab {A = ℕ} 1 (λ k. 1)) ≡ 1
-          one-long = length-tab {A = ℕ} 1 (λ k. 1)
-
-          fine : refusal (combineRules (S .p) (tab 1 (λ _. 1)) (tab 1 (λ _. x))) ≡ 0
-          fine =
-              combine-accepts (S .p) (tab 1 (λ _. 1)) (tab 1 (λ _. x))
-              (record {
-                field = group-ok S s e .0 .setup .limits .field;
-                constants = rw (one-long) (tab-vec (S .p) 1 _ (λ k m. big′));
-                shares = rw (one-long) (tab-vec (S .p) 1 _ (λ k m. l));
-                few = omega (arith, one-long);
-              }) (omega (arith, one-long))
+      lim : InLimits S ts
+      lim = record { some-terms = (omega arith, omega arith); columns = λ t l. h; constants = λ t l. big′ }
 
       hand : Handed S s all ts s handed
       hand =
           record {
-            limits = record { some-terms = (omega arith, omega arith); columns = λ t l. h; constants = λ t l. big′ };
+            limits = lim;
             below = group-ok S s e .0 .inside;
             count = length-tab _ _;
             by-rule = λ a l t.
-                once (at (D .shares (at (members (S .n) (holds s)) a)) b) (share-small _ (member-at (S .n) (holds s) a l))
-                ∙ ap (λ z. given (z ∷ [])) (sym (getD-tab (length (members (S .n) (holds s))) _ 0 a l));
+                let m = member-at (S .n) (holds s) a l in
+                combined S s all (done′ s e) ts lim (at (members (S .n) (holds s)) a) m
+                ∙ ap (λ z. given (z ∷ []))
+                (combine-one (S .p) _ (share-small S s all (done′ s e) tt _ m b h) ∙ sym (getD-tab (length (members (S .n) (holds s))) _ 0 a l));
             present = unfold determines in every-all (S .l) _ (λ k l.
                 row-grows S (holds s) (λ i. holds s i && holds s i) k big′ (λ i m t. rw t refl)
                 (every-at (S .l) (hasRow S (holds s)) (unfold determines in group-ok S s e .1) k l));
@@ -580,5 +596,41 @@ module _ (S : Setup) (secrets random : List ℕ) (D : Dealing) (hon : Honest S s
       column-is : column (arrayDealt S secrets random) b ≡ tab (S .l) (λ k. entry (S .l) secrets b k)
       column-is = tab-is (S .l) _ 0 _ (dealt-is s e .each b h .size) (λ k l. vectors′ k b l h)
 
+-- FAMILIES
+module _ (S : Setup) {I : Type 0} (secrets random : I → List ℕ) (D : I → Dealing) (hon : (t : I) → Honest S (secrets t) (random t) (D t)) where
+  dealtAt : I → Array
+  dealtAt t = arrayDealt S (secrets t) (random t)
+
+  families′ : FamilyFound S secrets random D
+  unfolding dealtAt
+  families′ = record { done = all-done; arrays = same; opens = opens-all }
+    where
+      all-done : (group : ℕ) → determinesCall S group ≡ yes → Done S group D
+      all-done group e =
+          record {
+            determined = e;
+            keepers = λ t i m. keep′ S (secrets t) (random t) (D t) (hon t) i (m .0);
+            delivered = λ t i j mi mj. hon t .arrived i j (mi .0) (mj .0);
+          }
+
+      same : (group : ℕ) → determinesCall S group ≡ yes → (F : Found S group D) (t : I) → F .array t ≡ dealtAt t
+      same group e F t =
+          only S group (group-ok S group e .1) (D t) _ _ (F .one t .array) (dealt-is S (secrets t) (random t) (D t) (hon t) group e)
+          (F .one t .agrees) (dealt-agrees S (secrets t) (random t) (D t) (hon t) group e)
+
+      opens-all : (group : ℕ) → determinesCall S group ≡ yes
+          → (ts : Terms I) (openers : ℕ) (handed out : List ℕ) → Handed S group D ts openers handed → length out ≡ S .l
+          → ((i : ℕ) → Member S openers i → Member S group i)
+          → Opens S openers handed out (secretsOver S dealtAt ts)
+      opens-all group e ts openers handed out hand room sub =
+          let F = found′ S group D (all-done group e) in
+          let r = F .never-refused ts openers handed out hand room sub in
+          record {
+            answer = r .answer;
+            buffer = r .buffer
+                ∙ tab-ext (S .l) _ _ (λ k l. ap (combine (S .p) (constants ts))
+                (tab-ext (ts .count) _ _ (λ t m. ap (λ A. at (column A (ts .column t)) k) (same group e F (ts .dealing t)))));
+          }
+
 pub demand3 : Demand3
-demand3 = record { found = found′; honest = honest′; back = back′ }
+demand3 = record { found = found′; met = met′; honest = honest′; families = families′; back = back′ }

@@ -1,23 +1,21 @@
 -- Honest runs exist: whatever setup, secrets and random entries are within the limits, there is the dealing in which all follow the rules and
--- every message arrives. So demand 3's hypotheses are met by every group that determines the secrets.
+-- every message arrives, and a family of them over any index. So demand 3's hypotheses are met by every group that determines the secrets.
 use mathlib.Core.Path.{_≡_, refl, sym, ap}
 use mathlib.Core.List.{List, [], _∷_}
 use Prim.Native.Nat.{ℕ, _-_, _<_}
 use native.Mathlib.Nat.{mod-lt}
-use borrow.Author.Tests.{lt-leb}
-use lib.ListN.{length, replicate, length-replicate}
+use lib.ListN.{replicate, length-replicate}
 use Rattle.base.specs.Rules.{refusal, given}
 use Rattle.base.specs.Search.{Vec}
 use Rattle.base.specs.Fill.{tab}
-use Rattle.base.proofs.Rules.{none-applies}
 use Rattle.base.proofs.Fill.{length-tab, getD-tab, tab-vec}
 use Rattle.linear.specs.Dot.{at}
 use Rattle.scheme.specs.Setup.{Setup, dim}
 use Rattle.scheme.specs.Answers.{yes}
 use Rattle.scheme.specs.Dealing.{partG, pairValue}
 use Rattle.scheme.specs.Calls.{dealRules, dealLeftG, dealLeftH, judgeCall, outcomeLeft, determinesCall}
-use Rattle.scheme.specs.Demand.{Dealing, Done, Honest}
-use Rattle.scheme.proofs.Calls.{limits-clear, limits-pos, size-clear, elements-clear, DealOk, pairValue-accepts}
+use Rattle.scheme.specs.Demand.{Dealing, Done, Honest, FamilyFound}
+use Rattle.scheme.proofs.Calls.{limits-pos, DealOk, deal-accepts, pairValue-accepts}
 use Rattle.scheme.proofs.Demand.{demand3}
 
 module _ (S : Setup) (secrets random : List ℕ) (ok : DealOk S secrets random) where
@@ -49,39 +47,8 @@ module _ (S : Setup) (secrets random : List ℕ) (ok : DealOk S secrets random) 
   not-declined : (i : ℕ) → i < S .n → refusal (dealRules S secrets random i zeros zeros) ≡ 0
   unfolding zeros
   not-declined i l =
-      let L = limits-clear S (ok .setup .limits) in
       let z = length-replicate {A = ℕ} (dim S) 0 in
-      none-applies (dealRules S secrets random i zeros zeros) (
-        L .field,
-        (
-          L .secret,
-          (
-            L .random,
-            (
-              L .holders,
-              (
-                size-clear (S .M) _ (ok .setup .matrix .size),
-                (
-                  size-clear secrets _ (ok .vectors .size),
-                  (
-                    size-clear random _ (ok .entries .size),
-                    (
-                      size-clear zeros _ z,
-                      (
-                        size-clear zeros _ z,
-                        (
-                          elements-clear (S .p) _ (S .M) (ok .setup .matrix),
-                          (elements-clear (S .p) _ secrets (ok .vectors), (elements-clear (S .p) _ random (ok .entries), (lt-leb (S .n) i l, tt))),
-                        ),
-                      ),
-                    ),
-                  ),
-                ),
-              ),
-            ),
-          ),
-        ),
-      )
+      deal-accepts S secrets random i zeros zeros ok z z l
 
   part-ok : (i : ℕ) → i < S .n → Vec (S .p) (dim S) (g i)
   unfolding g
@@ -109,3 +76,9 @@ module _ (S : Setup) (secrets random : List ℕ) (ok : DealOk S secrets random) 
 
   pub run-done : (group : ℕ) → determinesCall S group ≡ yes → Done S group (λ (t : Unit {0}). run)
   run-done group e = demand3 .honest S secrets random run run-honest .done group e
+
+-- any family of them
+pub runs-found : (S : Setup) {I : Type 0} (secrets random : I → List ℕ) (ok : (t : I) → DealOk S (secrets t) (random t))
+    → FamilyFound S secrets random (λ t. run S (secrets t) (random t) (ok t))
+runs-found S secrets random ok =
+    demand3 .families S secrets random (λ t. run S (secrets t) (random t) (ok t)) (λ t. run-honest S (secrets t) (random t) (ok t))

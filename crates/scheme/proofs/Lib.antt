@@ -4,7 +4,9 @@ pub mod Verdicts
 pub mod Members
 pub mod Sets
 pub mod Certificates
+pub mod Answering
 pub mod Grows
 pub mod Demand
 pub mod Honest
 pub mod Cases
+pub mod Lists

@@ -1,12 +1,20 @@
--- Demand 3 of document 01 ("What demand 3 speaks of"), as one statement over all dealings, combinations and openings together. It is stated over
--- the calls' own definitions (Calls.antt), so that nothing is assumed which a call does not check; proofs/Demand.antt proves it.
--- Quoted lines are document 01's.
+-- Demand 3 of the mission, with the meaning that document 01 gives its words ("What demand 3 speaks of"), as one statement over all dealings,
+-- combinations and openings together. It is stated over the calls' own definitions (Calls.antt), so that nothing is assumed which a call does not check;
+-- proofs/Demand.antt proves it. Quoted lines are document 01's, but for those marked as the mission's.
+--
+-- The mission's demand 3: "Found afterwards, whatever the dealers and all others sent: exactly one array of secrets per dealing agrees with the shares
+-- that the rule-keepers kept, and for every list of columns from such dealings with their constants, within document 01's limits, each opening of that
+-- combination gives exactly that combination of those secrets or is refused, but never where every opener is a rule-keeper. Done before: one setup, one
+-- group of rule-keeping holders, the same in every dealing, that determines all positions, their pair values to one another and themselves delivered,
+-- each having kept its shares by the rules. At the opening the rule-keepers present determine all positions by themselves and combine the same columns
+-- and constants. Where all follow the rules and every message arrives, everyone accepts, and the array is the one dealt."
 use mathlib.Core.Path.{_≡_}
 use mathlib.Core.Bool.{true, _&&_}
 use mathlib.Core.List.{List, [], _∷_}
 use mathlib.Core.Logic.{_⊎_}
 use Prim.Native.Nat.{ℕ, _%_, _^_, _≤_, _<_}
 use lib.ListN.{length, getD, take}
+use Rattle.base.specs.Choice.{pick}
 use Rattle.base.specs.Rules.{refused, given}
 use Rattle.base.specs.Search.{Vec}
 use Rattle.base.specs.Fill.{tab}
@@ -73,17 +81,27 @@ constants ts = tab (ts .count) (ts .constant)
 abbrev pub sharesOver : {I : Type 0} → (I → Dealing) → Terms I → ℕ → List ℕ
 sharesOver D ts i = tab (ts .count) (λ t. at (D (ts .dealing t) .shares i) (ts .column t))
 
+-- The mission's "At the opening the rule-keepers present determine all positions by themselves and combine the same columns and constants": the group's
+-- members among the openers determine the secrets. Where they do not, the others can open what they please: proofs/Cases.antt has such a case
+-- (liar-opens).
+abbrev pub Present : Setup → ℕ → ℕ → Type 0
+Present S group openers = determines S (λ i. holds openers i && holds group i) ≡ true
+
 -- "Openers are the members of the opening's set. The group's members among them hand in what the combination of their kept shares over this list
--- gives, the others anything": any numbers at all. "Openers below n, lent lengths as needed."
--- The group's members among the openers determine the secrets by themselves: without that the others alone could open what they please
--- (docs/DECISIONS.md has the counterexample, proofs/Demand.antt proves it).
+-- gives, the others anything": any numbers at all; "openers below n, lent lengths as needed".
 pub record Handed (S : Setup) (group : ℕ) {I : Type 0} (D : I → Dealing) (ts : Terms I) (openers : ℕ) (handed : List ℕ) : Type 0 where
   pub limits : InLimits S ts
   pub below : openers < 2 ^ S .n
   pub count : length handed ≡ length (members (S .n) (holds openers))
   pub by-rule : (a : ℕ) → a < length (members (S .n) (holds openers)) → holds group (at (members (S .n) (holds openers)) a) ≡ true
       → combineCall (S .p) (constants ts) (sharesOver D ts (at (members (S .n) (holds openers)) a)) ≡ given (at handed a ∷ [])
-  pub present : determines S (λ i. holds openers i && holds group i) ≡ true
+  pub present : Present S group openers
+
+-- A list handed in: the group's members among the openers hand in their combinations, every other opener i hands in `others i`.
+abbrev pub handedIn : Setup → ℕ → {I : Type 0} → (I → Dealing) → Terms I → ℕ → (ℕ → ℕ) → List ℕ
+handedIn S group D ts openers others =
+    tab (length (members (S .n) (holds openers)))
+    (λ a. let i = at (members (S .n) (holds openers)) a in pick (holds group i) (combine (S .p) (constants ts) (sharesOver D ts i)) (others i))
 
 -- WHAT IS FOUND
 
@@ -129,8 +147,9 @@ pub data Refused (S : Setup) (openers : ℕ) (handed out : List ℕ) : Type 0 wh
   by-four : openCall S openers handed out ≡ refused 4 → openLeft S openers handed out ≡ out → Refused S openers handed out
   by-seven : openCall S openers handed out ≡ inconsistent → openLeft S openers handed out ≡ out → Refused S openers handed out
 
--- one array for each dealing; "every opening of every combination gives exactly that combination of those secrets or is refused, but never where
--- every opener is a rule-keeper"; "One column opened by itself is the list of one term with constant 1."
+-- The mission's "exactly one array of secrets per dealing agrees with the shares that the rule-keepers kept"; "each opening of that combination gives
+-- exactly that combination of those secrets or is refused, but never where every opener is a rule-keeper". Document 01's "One column opened by itself is
+-- the list of one term with constant 1."
 pub record Found (S : Setup) (group : ℕ) {I : Type 0} (D : I → Dealing) : Type 0 where
   pub array : I → Array
   pub one : (t : I) → ExactlyOne S group (D t) (array t)
@@ -164,7 +183,8 @@ pub record Honest (S : Setup) (secrets random : List ℕ) (D : Dealing) : Type 0
 abbrev pub arrayDealt : Setup → List ℕ → List ℕ → Array
 arrayDealt S secrets random = tab (S .l) (λ b. tab (S .l) (λ k. entry (dim S) (dealt S secrets random) k b))
 
--- "everyone accepts, and the array is the one dealt", for every group that determines the secrets; and such a run is one that demand 3 speaks of
+-- the mission's "everyone accepts, and the array is the one dealt", for every group that determines the secrets; and such a run is one that demand 3
+-- speaks of
 pub record HonestFound (S : Setup) (secrets random : List ℕ) (D : Dealing) : Type 0 where
   pub accept : (i : ℕ) → i < S .n → judgeCall S (D .h i) (D .values i) ≡ accepts
   pub keep : (i : ℕ) → i < S .n → Keeps S D i
@@ -172,11 +192,29 @@ pub record HonestFound (S : Setup) (secrets random : List ℕ) (D : Dealing) : T
   pub array : (group : ℕ) → determinesCall S group ≡ yes → ExactlyOne S group D (arrayDealt S secrets random)
   pub vectors : (k b : ℕ) → k < S .l → b < S .l → at (column (arrayDealt S secrets random) b) k ≡ entry (S .l) secrets b k
 
--- DEMAND 3, whatever the dealers and all others sent; and demand 2's "Secrets dealt come back when any set that determines them opens the dealt
--- shares"
+-- Any family of such dealings, on one setup: every group that determines the secrets has done what demand 3 asks, the arrays found are those dealt, and
+-- so every combination that members of the group open gives that combination of the arrays dealt.
+pub record FamilyFound (S : Setup) {I : Type 0} (secrets random : I → List ℕ) (D : I → Dealing) : Type 0 where
+  pub done : (group : ℕ) → determinesCall S group ≡ yes → Done S group D
+  pub arrays : (group : ℕ) → determinesCall S group ≡ yes → (F : Found S group D) (t : I) → F .array t ≡ arrayDealt S (secrets t) (random t)
+  pub opens : (group : ℕ) → determinesCall S group ≡ yes
+      → (ts : Terms I) (openers : ℕ) (handed out : List ℕ) → Handed S group D ts openers handed → length out ≡ S .l
+      → ((i : ℕ) → Member S openers i → Member S group i)
+      → Opens S openers handed out (secretsOver S (λ t. arrayDealt S (secrets t) (random t)) ts)
+
+-- DEMAND 3
 pub record Demand3 : Type 1 where
+  -- demand 3 itself, whatever the dealers and all others sent
   pub found : (S : Setup) (group : ℕ) {I : Type 0} (D : I → Dealing) → Done S group D → Found S group D
+  -- `found` speaks of every list within the limits: whatever the others hand in, there is a list handed in
+  pub met : (S : Setup) (group : ℕ) {I : Type 0} (D : I → Dealing) → Done S group D
+      → (ts : Terms I) → InLimits S ts → (openers : ℕ) → openers < 2 ^ S .n → Present S group openers
+      → (others : ℕ → ℕ) → Handed S group D ts openers (handedIn S group D ts openers others)
+  -- where all follow the rules and every message arrives: one dealing, and any family of dealings
   pub honest : (S : Setup) (secrets random : List ℕ) (D : Dealing) → Honest S secrets random D → HonestFound S secrets random D
+  pub families : (S : Setup) {I : Type 0} (secrets random : I → List ℕ) (D : I → Dealing) → ((t : I) → Honest S (secrets t) (random t) (D t))
+      → FamilyFound S secrets random D
+  -- the mission's demand 2: "Secrets dealt come back when any set that determines them opens the dealt shares"
   pub back : (S : Setup) (secrets random : List ℕ) (D : Dealing) → Honest S secrets random D → (s : ℕ) → determinesCall S s ≡ yes
       → (b : ℕ) → b < S .l → (out : List ℕ) → length out ≡ S .l
       → Opens S s (tab (length (members (S .n) (holds s))) (λ a. at (D .shares (at (members (S .n) (holds s)) a)) b)) out

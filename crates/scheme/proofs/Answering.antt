@@ -1,0 +1,203 @@
+-- Every call answers where its inputs break nothing, and says so exactly where its number is 0: what stands behind a table of refusals is an answer
+-- with number 0, but for an opening's own 6 and 7.
+use mathlib.Core.Path.{_≡_, refl, sym, ap, _∙_}
+use mathlib.Core.Bool.{Bool, true, false, not, false≢true}
+use mathlib.Core.List.{List, [], _∷_}
+use mathlib.Core.Option.{Option, none, some, Option·none-ne-some}
+use Prim.Native.Nat.{ℕ, zero, suc, _*_, _/_, _%_, _^_, _≤_, _<_}
+use native.Mathlib.Omega.{arith}
+use borrow.Author.Tests.{eqb-true, eqb-false, ne-eqb, not-true, not-false}
+use lib.Dec.{eqb, ltb}
+use lib.ListN.{length, take}
+use Rattle.base.specs.Choice.{pick}
+use Rattle.base.specs.Rules.{Answer, refusal, given}
+use Rattle.base.specs.Search.{first, First, found, missing, firstVec, Vec}
+use Rattle.base.specs.Matrix.{flat}
+use Rattle.base.proofs.Matrix.{below-is}
+use Rattle.base.proofs.Search.{every-at, every-all, first-is, firstVec-sound, firstVec-complete}
+use Rattle.field.specs.Fields.{isField}
+use Rattle.scheme.specs.Setup.{Setup, dim, IsSetup}
+use Rattle.scheme.specs.Answers.{kept, aborted, fair, disagree, isARow, isAVector, isNeither, yes, no, undetermined, inconsistent, answerBy}
+use Rattle.scheme.specs.Dealing.{differs, judge, saidReject, isKept, outcome, pairValue, disagrees, rehearse}
+use Rattle.scheme.specs.Sets.{holds, members, hasRow, hasSweep, kind, determines, isPrivate}
+use Rattle.scheme.specs.Opening.{gives, opening, openedBy, combine}
+use Rattle.scheme.specs.Calls.{decide, pointsRules, dealRules, dealAllRules, pairValueRules, judgeRules, outcomeRules, rehearseRules, setRules, judgeSetRules, openRules, openCall, combineRules}
+use Rattle.scheme.specs.Answering.{Marked, AllMarked, Answers, Behind, OpenAnswers, Answering}
+use Rattle.scheme.proofs.Calls.{points-accepts, deal-accepts, dealAll-accepts, pairValue-accepts, judge-accepts, outcome-accepts, rehearse-accepts, set-accepts, judgeSet-accepts, open-by-shares, combine-accepts}
+use Rattle.scheme.proofs.Verdicts.{accept-when, reject-when}
+use Rattle.scheme.proofs.Members.{members-wide}
+use Rattle.scheme.proofs.Certificates.{by-search, undetermined-in-hand}
+
+is-false : (b : Bool) → (b ≡ true → ⊥) → b ≡ false
+is-false true h = absurd (h refl)
+is-false false h = refl
+
+-- WHAT STANDS BEHIND A TABLE
+-- an answer that is not refused
+Given : Answer → Type 0
+Given a = a ≡ given (a .values)
+
+choice-given : (b : Bool) (x y : Answer) → Given x → Given y → Given (pick b x y)
+choice-given true x y a c = a
+choice-given false x y a c = c
+
+judge-given : (S : Setup) (h values : List ℕ) → Given (judge S h values)
+unfolding Given differs
+judge-given S h values = go (first (differs S h values) (S .n)) (first-is (differs S h values) (S .n))
+  where
+    go : (r : ℕ) → First (differs S h values) (S .n) r → Given (judge S h values)
+    go r (found l t below) = rw (reject-when S h values r l t below)
+    go r (missing e all) = rw (accept-when S h values (λ j l. eqb-true _ _ (not-false _ (all j l))))
+
+outcome-given : (S : Setup) (verdicts : List ℕ) → Given (outcome S verdicts)
+unfolding Given outcome
+outcome-given S verdicts = choice-given (isKept S verdicts) kept (aborted (first (saidReject verdicts) (S .n))) refl refl
+
+rehearse-given : (S : Setup) (gs hs : List ℕ) → Given (rehearse S gs hs)
+unfolding Given rehearse
+rehearse-given S gs hs =
+    let t = first (flat (S .n) (disagrees S gs hs)) (S .n * S .n) in
+    choice-given (ltb t (S .n * S .n)) (disagree (t / S .n) (t % S .n)) fair refl refl
+
+decide-given : (b : Bool) → Given (decide b)
+unfolding Given
+decide-given b = choice-given b yes no refl refl
+
+kind-given : (S : Setup) (X : ℕ → Bool) (q : ℕ) → Given (kind S X q)
+unfolding Given kind
+kind-given S X q = choice-given (hasRow S X q) isARow (pick (hasSweep S X q) isAVector isNeither) refl (choice-given (hasSweep S X q) isAVector isNeither refl refl)
+
+-- an opening: the secrets, or 6, or 7
+data OpeningIs (S : Setup) (s : ℕ) (xs : List ℕ) : Type 0 where
+  secrets : determines S (holds s) ≡ true → Behind S s xs → (vs : List ℕ) → opening S (holds s) xs ≡ given vs → OpeningIs S s xs
+  by-six : determines S (holds s) ≡ false → (q : ℕ) → opening S (holds s) xs ≡ undetermined q → OpeningIs S s xs
+  by-seven : determines S (holds s) ≡ true → (Behind S s xs → ⊥) → opening S (holds s) xs ≡ inconsistent → OpeningIs S s xs
+
+opening-is : (S : Setup) (s : ℕ) (xs : List ℕ) → OpeningIs S s xs
+unfolding determines
+opening-is S s xs = go (first lacks (S .l)) (first-is lacks (S .l))
+  where
+    lacks : ℕ → Bool
+    lacks k = not (hasRow S (holds s) k)
+
+    search : (o : Option (List ℕ)) → firstVec (S .p) (dim S) (gives S (members (S .n) (holds s)) xs) ≡ o → determines S (holds s) ≡ true → OpeningIs S s xs
+    search none e d =
+        by-seven d (λ b. Option·none-ne-some _ (sym e ∙ firstVec-complete (S .p) (dim S) _ (b .vector) (b .ok) (b .all) .1))
+        (by-search S (holds s) xs d ∙ ap (openedBy (S .l)) e)
+    search (some v) e d =
+        let w = firstVec-sound (S .p) (dim S) _ v e in
+        secrets d (record { vector = v; ok = w .0; all = w .1 }) (take (S .l) v) (by-search S (holds s) xs d ∙ ap (openedBy (S .l)) e)
+
+    go : (r : ℕ) → First lacks (S .l) r → OpeningIs S s xs
+    go r (found l t below) =
+        by-six (is-false (determines S (holds s)) (λ d. false≢true (sym (not-true _ t) ∙ every-at (S .l) (hasRow S (holds s)) d r l))) r
+        (undetermined-in-hand S (holds s) xs r l (λ j m. not-false _ (below j m)) (not-true _ t))
+    go r (missing e all) = search _ refl (every-all (S .l) (hasRow S (holds s)) (λ k l. not-false _ (all k l)))
+
+-- THE MARK
+pub marked-by : (r : ℕ) (a : Answer) → Marked a → Marked (answerBy r a)
+marked-by zero a m = m
+marked-by (suc r) a m = sym (ne-eqb (suc r) 0 (λ e. omega arith))
+
+marked-given : (a : Answer) → Given a → Marked a
+unfolding Given
+marked-given a e = ap (λ (x : Answer). x .answered) e ∙ ap (λ (x : Answer). eqb (x .number) 0) (sym e)
+
+opening-marked : (S : Setup) (s : ℕ) (xs : List ℕ) → Marked (opening S (holds s) xs)
+opening-marked S s xs = go (opening-is S s xs)
+  where
+    go : OpeningIs S s xs → Marked (opening S (holds s) xs)
+    go (secrets d b vs e) = rw e refl
+    go (by-six d q e) = rw e refl
+    go (by-seven d no e) = rw e refl
+
+pub all-marked : AllMarked
+all-marked =
+    record {
+      points = λ S. marked-by (refusal (pointsRules S)) (given []) refl;
+      deal = λ S secrets random i g h. marked-by (refusal (dealRules S secrets random i g h)) (given []) refl;
+      deal-all = λ S secrets random gs hs. marked-by (refusal (dealAllRules S secrets random gs hs)) (given []) refl;
+      pair-value = λ S g i. marked-by (refusal (pairValueRules S g i)) (given (pairValue S g i ∷ [])) refl;
+      judge = λ S h values. marked-by (refusal (judgeRules S h values)) _ (marked-given _ (judge-given S h values));
+      outcome = λ S g verdicts out. marked-by (refusal (outcomeRules S g verdicts out)) _ (marked-given _ (outcome-given S verdicts));
+      rehearse = λ S gs hs. marked-by (refusal (rehearseRules S gs hs)) _ (marked-given _ (rehearse-given S gs hs));
+      determines = λ S s. marked-by (refusal (setRules S s)) _ (marked-given _ (decide-given (determines S (holds s))));
+      private = λ S s. marked-by (refusal (setRules S s)) _ (marked-given _ (decide-given (isPrivate S (holds s))));
+      judge-set = λ S s q out. marked-by (refusal (judgeSetRules S s q out)) _ (marked-given _ (kind-given S (holds s) q));
+      opening = λ S s xs out. marked-by (refusal (openRules S s xs out)) _ (opening-marked S s xs);
+      combine = λ p cs xs. marked-by (refusal (combineRules p cs xs)) (given (combine p cs xs ∷ [])) refl;
+    }
+
+-- INPUTS THAT BREAK NOTHING
+answers-by : (r : ℕ) (a : Answer) → r ≡ 0 → Given a → Answers (answerBy r a)
+unfolding Given
+answers-by r a e g = rw e (ap (λ (x : Answer). x .answered) g)
+
+given-given : (vs : List ℕ) → Given (given vs)
+unfolding Given
+given-given vs = refl
+
+open-answers : (S : Setup) (s : ℕ) (xs out : List ℕ) → refusal (openRules S s xs out) ≡ 0 → OpenAnswers S s xs out
+open-answers S s xs out fine = go (opening-is S s xs)
+  where
+    -- the call gives the opening's own answer
+    is : (a : Answer) → opening S (holds s) xs ≡ a → (openCall S s xs out .answered ≡ a .answered) × (openCall S s xs out .number ≡ a .number)
+    is a e = rw (fine, e) (refl, refl)
+
+    go : OpeningIs S s xs → OpenAnswers S s xs out
+    go (secrets d b vs e) =
+        let r = is (given vs) e in
+        record {
+          answers = (λ t. (d, b), λ q. r .0);
+          six = (λ n. absurd (eqb-false 0 6 refl (sym (r .1) ∙ n)), λ f. absurd (false≢true (sym f ∙ d)));
+          seven = (λ n. absurd (eqb-false 0 7 refl (sym (r .1) ∙ n)), λ q. absurd (q .1 b));
+        }
+    go (by-six d q e) =
+        let r = is (undetermined q) e in
+        record {
+          answers = (λ t. absurd (false≢true (sym (r .0) ∙ t)), λ p. absurd (false≢true (sym d ∙ p .0)));
+          six = (λ n. d, λ f. r .1);
+          seven = (λ n. absurd (eqb-false 6 7 refl (sym (r .1) ∙ n)), λ p. absurd (false≢true (sym d ∙ p .0)));
+        }
+    go (by-seven d no e) =
+        let r = is inconsistent e in
+        record {
+          answers = (λ t. absurd (false≢true (sym (r .0) ∙ t)), λ p. absurd (no (p .1)));
+          six = (λ n. absurd (eqb-false 7 6 refl (sym (r .1) ∙ n)), λ f. absurd (false≢true (sym f ∙ d)));
+          seven = (λ n. (d, no), λ p. r .1);
+        }
+
+pub answering : Answering
+answering =
+    record {
+      points = λ S L room fits. answers-by (refusal (pointsRules S)) _ (points-accepts S (record { limits = L; room = room; fits = fits })) (given-given []);
+      deal = λ S secrets random i g h ok v r l a b.
+          answers-by (refusal (dealRules S secrets random i g h)) _ (deal-accepts S secrets random i g h (record { setup = ok; vectors = v; entries = r }) a b l) (given-given []);
+      deal-all = λ S secrets random gs hs ok v r a b.
+          answers-by (refusal (dealAllRules S secrets random gs hs)) _ (dealAll-accepts S secrets random gs hs (record { setup = ok; vectors = v; entries = r }) a b) (given-given []);
+      pair-value = λ S g i ok v l.
+          answers-by (refusal (pairValueRules S g i)) _ (pairValue-accepts S g i (record { setup = ok; part = v; to = l })) (given-given _);
+      judge = λ S h values ok v r.
+          answers-by (refusal (judgeRules S h values)) _ (judge-accepts S h values (record { setup = ok; part = v; received = r })) (judge-given S h values);
+      outcome = λ S g verdicts out L v w room.
+          answers-by (refusal (outcomeRules S g verdicts out)) _ (outcome-accepts S g verdicts out (record { limits = L; part = v; heard = w; room = room })) (outcome-given S verdicts);
+      rehearse = λ S gs hs ok v w.
+          answers-by (refusal (rehearseRules S gs hs)) _ (rehearse-accepts S gs hs (record { setup = ok; rows = v; columns = w })) (rehearse-given S gs hs);
+      determines = λ S s ok l. answers-by (refusal (setRules S s)) _ (set-accepts S s (record { setup = ok; inside = l })) (decide-given (determines S (holds s)));
+      private = λ S s ok l. answers-by (refusal (setRules S s)) _ (set-accepts S s (record { setup = ok; inside = l })) (decide-given (isPrivate S (holds s)));
+      judge-set = λ S s q out ok l m room.
+          answers-by (refusal (judgeSetRules S s q out)) _ (judgeSet-accepts S s q out (record { setup = ok; inside = l }) room m) (kind-given S (holds s) q);
+      opening = λ S s xs out ok l v room. open-answers S s xs out (open-accepts S s xs out ok l v room);
+      combine = λ p k cs xs f few v w. answers-by (refusal (combineRules p cs xs)) _ (combined p k cs xs f few v w) (given-given _);
+    }
+  where
+    open-accepts : (S : Setup) (s : ℕ) (xs out : List ℕ) → IsSetup S → s < 2 ^ S .n → Vec (S .p) (length (members (S .n) (holds s))) xs → length out ≡ S .l
+        → refusal (openRules S s xs out) ≡ 0
+    open-accepts S s xs out ok l v room =
+        open-by-shares S s xs out (record { setup = ok; inside = l })
+        (v .size ∙ ap length (sym (members-wide (S .n) 32 s l (ok .limits .holders .1)))) room
+        ∙ rw (below-is (S .p) xs (λ k m. v .small k (omega (arith, v .size)))) refl
+
+    combined : (p k : ℕ) (cs xs : List ℕ) → isField p ≡ true → (1 ≤ k) × (k ≤ 64) → Vec p k cs → Vec p k xs → refusal (combineRules p cs xs) ≡ 0
+    combined p k cs xs f few v w =
+        combine-accepts p cs xs (record { field = f; constants = rw (v .size) v; shares = rw (v .size) w; few = omega (arith, v .size) }) (omega (arith, v .size))

@@ -1,0 +1,77 @@
+-- When a call answers (document 01, "What a call gives when it declines"), for each call in the order of Calls.antt; proofs/Answering.antt proves it.
+-- The calls that write and read records, and the call for a holder's file, have the like beside their own definitions.
+-- Marked: an answer says that the call answered exactly where the refusal's number is 0
+-- AllMarked: every call's answer does
+-- Answers: the call answered, that is, it was not refused
+-- Behind: some vector gives every share handed in
+-- OpenAnswers: what an opening answers whose inputs break nothing
+-- Answering: a call whose inputs break nothing answers: p, ℓ, e and n within the limits, lent lengths as needed, elements below p, indices in range
+use mathlib.Core.Path.{_≡_}
+use mathlib.Core.Bool.{true, false}
+use mathlib.Core.List.{List}
+use mathlib.Core.Logic.{_↔_}
+use Prim.Native.Nat.{ℕ, _+_, _-_, _*_, _^_, _≤_, _<_}
+use lib.Dec.{eqb}
+use lib.ListN.{length}
+use Rattle.base.specs.Rules.{Answer}
+use Rattle.base.specs.Search.{Vec}
+use Rattle.field.specs.Fields.{isField}
+use Rattle.scheme.specs.Setup.{Setup, dim, Limits, IsSetup}
+use Rattle.scheme.specs.Sets.{holds, members, determines}
+use Rattle.scheme.specs.Opening.{gives}
+use Rattle.scheme.specs.Calls.{pointsCall, dealCall, dealAllCall, pairValueCall, judgeCall, outcomeCall, rehearseCall, determinesCall, privateCall, judgeSetCall, openCall, combineCall}
+
+-- THE MARK OF AN ANSWER
+abbrev pub Marked : Answer → Type 0
+Marked a = a .answered ≡ eqb (a .number) 0
+
+-- whatever the call is given
+pub record AllMarked : Type 0 where
+  pub points : (S : Setup) → Marked (pointsCall S)
+  pub deal : (S : Setup) (secrets random : List ℕ) (i : ℕ) (g h : List ℕ) → Marked (dealCall S secrets random i g h)
+  pub deal-all : (S : Setup) (secrets random gs hs : List ℕ) → Marked (dealAllCall S secrets random gs hs)
+  pub pair-value : (S : Setup) (g : List ℕ) (i : ℕ) → Marked (pairValueCall S g i)
+  pub judge : (S : Setup) (h values : List ℕ) → Marked (judgeCall S h values)
+  pub outcome : (S : Setup) (g verdicts out : List ℕ) → Marked (outcomeCall S g verdicts out)
+  pub rehearse : (S : Setup) (gs hs : List ℕ) → Marked (rehearseCall S gs hs)
+  pub determines : (S : Setup) (s : ℕ) → Marked (determinesCall S s)
+  pub private : (S : Setup) (s : ℕ) → Marked (privateCall S s)
+  pub judge-set : (S : Setup) (s q : ℕ) (out : List ℕ) → Marked (judgeSetCall S s q out)
+  pub opening : (S : Setup) (s : ℕ) (xs out : List ℕ) → Marked (openCall S s xs out)
+  pub combine : (p : ℕ) (cs xs : List ℕ) → Marked (combineCall p cs xs)
+
+-- INPUTS THAT BREAK NOTHING
+abbrev pub Answers : Answer → Type 0
+Answers a = a .answered ≡ true
+
+-- of an opening: "any vector of d entries that gives every share"
+pub record Behind (S : Setup) (s : ℕ) (xs : List ℕ) : Type 0 where
+  pub vector : List ℕ
+  pub ok : Vec (S .p) (dim S) vector
+  pub all : gives S (members (S .n) (holds s)) xs vector ≡ true
+
+-- "6: the opening set doesn't determine the secrets"; "7: determined, but no vector gives all the shares"; else it answers
+pub record OpenAnswers (S : Setup) (s : ℕ) (xs out : List ℕ) : Type 0 where
+  pub answers : Answers (openCall S s xs out) ↔ ((determines S (holds s) ≡ true) × Behind S s xs)
+  pub six : (openCall S s xs out .number ≡ 6) ↔ (determines S (holds s) ≡ false)
+  pub seven : (openCall S s xs out .number ≡ 7) ↔ ((determines S (holds s) ≡ true) × (Behind S s xs → ⊥))
+
+pub record Answering : Type 0 where
+  pub points : (S : Setup) → Limits S → length (S .M) ≡ S .n * dim S → dim S + S .n ≤ S .p → Answers (pointsCall S)
+  pub deal : (S : Setup) (secrets random : List ℕ) (i : ℕ) (g h : List ℕ) → IsSetup S
+      → Vec (S .p) (S .l * S .l) secrets → Vec (S .p) (dim S * dim S - S .l * S .l) random → i < S .n → length g ≡ dim S → length h ≡ dim S
+      → Answers (dealCall S secrets random i g h)
+  pub deal-all : (S : Setup) (secrets random gs hs : List ℕ) → IsSetup S
+      → Vec (S .p) (S .l * S .l) secrets → Vec (S .p) (dim S * dim S - S .l * S .l) random → length gs ≡ S .n * dim S → length hs ≡ S .n * dim S
+      → Answers (dealAllCall S secrets random gs hs)
+  pub pair-value : (S : Setup) (g : List ℕ) (i : ℕ) → IsSetup S → Vec (S .p) (dim S) g → i < S .n → Answers (pairValueCall S g i)
+  pub judge : (S : Setup) (h values : List ℕ) → IsSetup S → Vec (S .p) (dim S) h → Vec (S .p) (S .n) values → Answers (judgeCall S h values)
+  pub outcome : (S : Setup) (g verdicts out : List ℕ) → Limits S → Vec (S .p) (dim S) g → Vec 2 (S .n) verdicts → length out ≡ S .l
+      → Answers (outcomeCall S g verdicts out)
+  pub rehearse : (S : Setup) (gs hs : List ℕ) → IsSetup S → Vec (S .p) (S .n * dim S) gs → Vec (S .p) (S .n * dim S) hs → Answers (rehearseCall S gs hs)
+  pub determines : (S : Setup) (s : ℕ) → IsSetup S → s < 2 ^ S .n → Answers (determinesCall S s)
+  pub private : (S : Setup) (s : ℕ) → IsSetup S → s < 2 ^ S .n → Answers (privateCall S s)
+  pub judge-set : (S : Setup) (s q : ℕ) (out : List ℕ) → IsSetup S → s < 2 ^ S .n → q < S .l → length out ≡ 32 → Answers (judgeSetCall S s q out)
+  pub opening : (S : Setup) (s : ℕ) (xs out : List ℕ) → IsSetup S → s < 2 ^ S .n → Vec (S .p) (length (members (S .n) (holds s))) xs → length out ≡ S .l
+      → OpenAnswers S s xs out
+  pub combine : (p k : ℕ) (cs xs : List ℕ) → isField p ≡ true → (1 ≤ k) × (k ≤ 64) → Vec p k cs → Vec p k xs → Answers (combineCall p cs xs)
