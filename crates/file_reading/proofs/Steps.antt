@@ -4,7 +4,7 @@ use mathlib.Core.Bool.{Bool, true, false, not, _&&_, false≢true}
 use mathlib.Core.List.{List, [], _∷_, _++_}
 use mathlib.Core.Path.{_≡_, refl, sym, ap, subst, _∙_}
 use native.Mathlib.Omega.{arith}
-use borrow.Author.Tests.{eq-eqb, ne-eqb, ltb-false, leb-false, not-false}
+use borrow.Author.Tests.{eq-eqb, ne-eqb, eqb-false, ltb-false, leb-false, not-false}
 use lib.Dec.{eqb, ltb, lit≤}
 use lib.ListN.{length, take, drop, replicate, length-append, length-drop, take-append-drop}
 use lib.Seq.{getD-take, length-take-le, take-at}
@@ -233,7 +233,7 @@ both-fit a b s h k = omega (arith, length-drop a s)
 
 -- a DL that is not refused
 pub dealing-read : (S : Setup) (t : List ℕ) → Limits S → refusal (readDealingRules S t (dim S) (dim S)) ≡ 0
-    → (wordAt t 2 < S .n) × Vec (S .p) (dim S) (dealingG S t) × Vec (S .p) (dim S) (dealingH S t) × (dealingSize S ≤ length t)
+    → (wordAt t 2 < S .n) × Vec (S .p) (dim S) (dealingG S t) × Vec (S .p) (dim S) (dealingH S t) × (dealingSize S ≤ length t) × (wordAt t 1 ≡ 0 → ⊥)
 dealing-read S t L z =
     let r = passed (readDealingRules S t (dim S) (dim S)) tt z .1 .1 .1 .1 .1 .1 in
     let f = r .1 .1 .1 in
@@ -242,6 +242,7 @@ dealing-read S t L z =
       record { size = length-words t 3 (dim S); small = λ k l. below-by (S .p) (dealingG S t) pos (not-false (allBelow (S .p) (dealingG S t)) (f .0)) k },
       record { size = length-words t (3 + dim S) (dim S); small = λ k l. below-by (S .p) (dealingH S t) pos (not-false (allBelow (S .p) (dealingH S t)) (f .1 .0)) k },
       ltb-false (length t) (dealingSize S) (r .1 .1 .0),
+      eqb-false (wordAt t 1) 0 (f .1 .1 .1 .0),
     )
 
 -- the fault from the byte on where SU ends

@@ -8,27 +8,18 @@
 -- ofContents, ofEnd, ofReceived, ofDealing, readFile: what is read from the contents, from the file's end, from its PV and VD on, from its DL and its start on
 -- told: the contents as the code tells them
 -- numberOf, byteOf: the refusal's number, 0 where there is none, and its byte
--- numbers: the contents as 18 numbers
--- atByte, fileAnswer, fileLeft: a refusal at a byte; the answer and a lent buffer by what is read
--- readFileRules, readFileCall, readFileLeft: the open call
-use mathlib.Core.Bool.{Bool, false, not, _&&_}
-use mathlib.Core.List.{List, [], _∷_, _++_}
+use mathlib.Core.Bool.{Bool, not, _&&_}
+use mathlib.Core.List.{List, _++_}
 use Prim.Native.Nat.{ℕ, zero, suc, _+_, _-_, _*_}
 use lib.Dec.{eqb, ltb}
 use lib.ListN.{length, drop, replicate}
 use Rattle.base.specs.Choice.{pick}
-use Rattle.base.specs.Rules.{Rule, _when_, refusal, Answer, refused, given}
+use Rattle.base.specs.Rules.{refusal}
 use Rattle.base.specs.Search.{every}
 use Rattle.base.specs.Fill.{tab}
 use Rattle.linear.specs.Dot.{at}
 use Rattle.scheme.specs.declared.Params.{Params}
-use Rattle.scheme.specs.declared.Outcome.{Outcome}
-use Rattle.scheme.specs.declared.Judgement.{Judgement}
-use Rattle.scheme.specs.declared.Judgement.the-variants.{Accept, Reject}
-use Rattle.scheme.specs.declared.Fate.{Fate}
-use Rattle.scheme.specs.declared.Fate.the-variants.{Kept, Aborted}
 use Rattle.scheme.specs.Setup.{Setup, dim}
-use Rattle.scheme.specs.Answers.{answerBy, leftBy}
 use Rattle.words.specs.Words.{wordAt}
 use Rattle.records.specs.declared.DealingRecord.{DealingRecord}
 use Rattle.records.specs.Records.{markSU, setupAt, setupSize, dealingSize, dealingAt, dealingG, dealingH, readSetupRules, readDealingRules}
@@ -36,8 +27,6 @@ use Rattle.received.specs.declared.Head.{Head}
 use Rattle.received.specs.declared.Seen.{Seen}
 use Rattle.received.specs.Received.{readReceived}
 use Rattle.file_reading.specs.declared.Told.{Told}
-use Rattle.file_reading.specs.declared.FileGiven.{FileGiven}
-use Rattle.file_reading.specs.declared.FileGiven.the-variants as fileGiven
 use Rattle.file_reading.specs.Contents.{Contents, judgement, verdictOf, fate, keptShares}
 
 pub data FileRead : Type 0 where
@@ -122,43 +111,3 @@ told C =
       outcome = record { judgement = judgement C; fate = fate C };
       shares = eight (keptShares C);
     }
-
--- THE CALL: a file of at most 4,096 bytes, into a lent buffer of 18 numbers: "p, ℓ, e, n; dealing number and holder; verdict, with the holder named after `reject`;
--- outcome, with the holder named after `aborted`; column and value", each of the two as 1, 0 or 0 and the holder named, and the eight shares
-abbrev pub judged : Judgement → List ℕ
-judged Accept = 1 ∷ 0 ∷ []
-judged (Reject j) = 0 ∷ j ∷ []
-
-abbrev pub settled : Fate → List ℕ
-settled Kept = 1 ∷ 0 ∷ []
-settled (Aborted i) = 0 ∷ i ∷ []
-
-abbrev pub numbers : Contents → List ℕ
-numbers C =
-    C .setup .p ∷ C .setup .l ∷ C .setup .e ∷ C .setup .n ∷ C .dealing ∷ C .holder ∷ judged (judgement C) ++ settled (fate C) ++ eight (keptShares C)
-
-abbrev pub readFileRules : List ℕ → List ℕ → List Rule
-readFileRules s out = (3 when ltb 4096 (length s)) ∷ (3 when not (eqb (length out) 18)) ∷ []
-
--- a refusal at a byte gives the byte beside its number
-abbrev pub atByte : ℕ → ℕ → Answer
-atByte k byte = record { answered = false; number = k; values = byte ∷ [] }
-
-abbrev pub fileAnswer : (Contents → List ℕ) → FileRead → Answer
-fileAnswer values (refusedAt k byte) = atByte k byte
-fileAnswer values (whole C) = given (values C)
-
-abbrev pub fileLeft : (Contents → List ℕ) → FileRead → List ℕ → List ℕ
-fileLeft new (refusedAt k byte) old = old
-fileLeft new (whole C) old = new C
-
-abbrev pub readFileCall : List ℕ → List ℕ → Answer
-readFileCall s out = answerBy (refusal (readFileRules s out)) (fileAnswer (λ C. []) (readFile s))
-
-abbrev pub readFileLeft : List ℕ → List ℕ → List ℕ
-readFileLeft s out = leftBy (refusal (readFileRules s out)) (fileLeft numbers (readFile s) out) out
-
-abbrev pub paperGiven : FileGiven → Answer
-paperGiven (fileGiven.Given) = given []
-paperGiven (fileGiven.RefusedAt k byte) = atByte k byte
-paperGiven (fileGiven.Refused k) = refused k

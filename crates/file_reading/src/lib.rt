@@ -13,7 +13,7 @@ ghost use Rattle.words.specs.Words.{wordAt, wordsAt};
 ghost use Rattle.records.specs.Records.{markSU, setupSize, dealingSize};
 ghost use Rattle.received.specs.Received.{Bounded};
 ghost use Rattle.file_reading.specs.Contents.{judgementOf, verdictOf};
-ghost use Rattle.file_reading.specs.File.{setupFault, headOf, complete, lowered, contentsOf, ofContents, ofEnd, ofReceived, readFile, refusedAt, numbers, told, readFileCall, readFileLeft, paperGiven};
+ghost use Rattle.file_reading.specs.File.{setupFault, headOf, complete, lowered, contentsOf, ofContents, ofEnd, ofReceived, readFile, refusedAt};
 ghost use Rattle.file_reading.specs.Inner.{setupIn, rowIn, columnIn, Parts, ReadsSetup, ReadsDealing, Tells, tellsBy};
 use received::Head;
 use received::Seen;
@@ -54,13 +54,6 @@ pub struct DealingPart {
     pub record: DealingRecord,
     pub g: [u16; 16],
     pub h: [u16; 16],
-}
-
-// What the call that reads a file answers.
-pub enum FileGiven {
-    Given,
-    RefusedAt(u16, usize),
-    Refused(u16),
 }
 
 // A refused file.

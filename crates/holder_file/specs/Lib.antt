@@ -1,2 +1,2 @@
-pub mod File
-pub mod Contents
+pub mod Text
+pub mod Calls

@@ -1,62 +1,90 @@
--- Where nothing is refused, the text stands at the start and the rest of the buffer is as it was.
+-- A refused file leaves the buffer; else the text stands at its start and the rest of the buffer is as it was.
 use Prim.Native.Nat.{ℕ}
-use mathlib.Core.Bool.{not}
-use mathlib.Core.List.{[], _∷_}
-use mathlib.Core.Path.{_≡_, sym, ap, _∙_}
+use mathlib.Core.List.{List, [], _∷_, _++_}
+use mathlib.Core.Path.{_≡_, refl, sym, ap, subst, _∙_}
 use native.Mathlib.Omega.{arith}
 use borrow.Author.Tests.{ltb-false, eqb-true, not-false}
 use lib.Dec.{eqb}
-use lib.ListN.{length}
-use Rattle.base.specs.Rules.{orWhen, refusal, refused, given}
+use lib.ListN.{length, drop}
+use Rattle.base.specs.Rules.{refusal, refused, given}
 use Rattle.scheme.proofs.Calls.{declined, unchanged}
 use Rattle.records.proofs.Calls.{accepted, written, passed}
-use Rattle.holder_file.specs.File.{holderFileRules}
-use Rattle.holder_file.proofs.Texts.{printed-left}
+use Rattle.report.specs.Text.{Printed}
+use Rattle.file_reading.specs.File.{readFile}
+use Rattle.holder_file.specs.Text.{textOf}
+use Rattle.holder_file.specs.Calls.{lentFile}
+use Rattle.holder_file.proofs.Laws.{refused-is, refused-answer, refused-left, printed-left, whole-answer, whole-left, contents, told-text, told-fits}
 use borrow.Author.Needs.{needs}
 use Rattle.holder_file.proofs.holder_file.Statement.{statement}
 use Rattle.holder_file.proofs.holder_file.Tie as tie
 
--- the refusal is that of the table
-by-table : (c : tie.After-or-when2) → c .or-when2 .result ≡ refusal (holderFileRules (c .before .before .before .before .args .file .now) (c .before .before .before .before .args .out .now))
-by-table c = c .or-when2 .ensures ∙ ap (λ (r : ℕ). orWhen r 3 (not (eqb (length (c .before .before .before .before .args .out .now)) 256))) (c .before .or-when .ensures)
-
-or-when-requires : tie.Need-or-when-requires
-or-when-requires c κs = search needs
-
-or-when-requires-2 : tie.Need-or-when-requires-2
-or-when-requires-2 c κs = search needs
+lent-refusal-requires : tie.Need-lent-refusal-requires
+lent-refusal-requires c κs = search needs
 
 returns : tie.Need-returns
 returns c =
-    let x = c .before .before .before .before .before .args in
-    let R = refusal (holderFileRules (x .file .now) (x .out .now)) in
-    let e = by-table (c .before) in
+    let x = c .before .before .before .before .args in
+    let s = x .file .now in
+    let R = refusal (lentFile s (x .out .now) 256) in
+    let e = c .before .lent-refusal .ensures (x .out .now) refl in
     (ap refused e ∙ declined R _ (λ z. c .if1 .taken (e ∙ z)), unchanged R _ _ (λ z. c .if1 .taken (e ∙ z)))
 
-print-file-requires : tie.Need-print-file-requires
-print-file-requires c κs =
+read-file-requires : tie.Need-read-file-requires
+read-file-requires c κs =
+    let x = c .before .before .before .before .args in
+    let s = x .file .now in
+    let R = refusal (lentFile s (x .out .now) 256) in
+    let e = c .before .lent-refusal .ensures (x .out .now) refl in
+    ltb-false 4096 (length s) (passed (lentFile s (x .out .now) 256) tt (sym e ∙ c .if1 .left) .0)
+
+returns-2 : tie.Need-returns-2
+returns-2 c =
     let x = c .before .before .before .before .before .before .args in
-    let r = passed (holderFileRules (x .file .now) (x .out .now)) tt (sym (by-table (c .before .before)) ∙ c .before .if1 .left) in
-    (ltb-false 4096 (length (x .file .now)) (r .0), omega (arith, eqb-true (length (x .out .now)) 256 (not-false (eqb (length (x .out .now)) 256) (r .1 .0))))
+    let s = x .file .now in
+    let R = refusal (lentFile s (x .out .now) 256) in
+    let e = c .before .before .before .lent-refusal .ensures (x .out .now) refl in
+    let z = sym e ∙ c .before .before .if1 .left in
+    let w = c .before .read-file .ensures in
+    let f = refused-is (readFile s) _ _ (w .number) (w .byte) (c .if2 .taken) in
+    (refused-answer _ (readFile s) _ _ f ∙ accepted R _ z, written R _ _ _ z (refused-left _ (readFile s) _ _ (x .out .now) f))
+
+print-told-requires : tie.Need-print-told-requires
+print-told-requires c κs =
+    let x = c .before .before .before .before .before .before .before .before .args in
+    let s = x .file .now in
+    let R = refusal (lentFile s (x .out .now) 256) in
+    let e = c .before .before .before .before .before .lent-refusal .ensures (x .out .now) refl in
+    let f = told-fits s (c .before .before .before .read-file .result) (c .before .before .before .read-file .ensures) (c .before .before .if2 .left) in
+    let q = passed (lentFile s (x .out .now) 256) tt (sym e ∙ c .before .before .before .before .if1 .left) in
+    (f .0, f .1, omega (arith, eqb-true (length (x .out .now)) 256 (not-false (eqb (length (x .out .now)) 256) (q .1 .0))))
 
 same-length : tie.Need-same-length
 same-length c = search needs
 
-returns-2 : tie.Need-returns-2
-returns-2 c =
-    let x = c .before .before .before .before .before .before .before .before .before .args in
-    let R = refusal (holderFileRules (x .file .now) (x .out .now)) in
-    let z = sym (by-table (c .before .before .before .before .before)) ∙ c .before .before .before .before .if1 .left in
-    let w = c .before .before .print-file .ensures in
-    (ap (λ (n : ℕ). given (n ∷ [])) (w .count) ∙ accepted R _ z, written R _ _ _ z (printed-left w))
+returns-3 : tie.Need-returns-3
+returns-3 c =
+    let x = c .before .before .before .before .before .before .before .before .before .before .before .args in
+    let s = x .file .now in
+    let R = refusal (lentFile s (x .out .now) 256) in
+    let e = c .before .before .before .before .before .before .before .before .lent-refusal .ensures (x .out .now) refl in
+    let z = sym e ∙ c .before .before .before .before .before .before .before .if1 .left in
+    let r = c .before .before .before .before .before .before .read-file .result in
+    let w = c .before .before .before .before .before .before .read-file .ensures in
+    let y = c .before .before .before .before .before .if2 .left in
+    let C = contents s r w y in
+    let P = subst (λ (u : List ℕ). Printed (x .out .now) u _ _) (told-text s r w y) (c .before .before .print-told .ensures) in (
+      ap (λ (n : ℕ). given (n ∷ [])) (P .count) ∙ whole-answer (λ D. length (textOf D) ∷ []) (readFile s) (C .contents) (C .is) ∙ accepted R _ z,
+      written R _ _ _ z (printed-left P ∙ whole-left (λ D. textOf D ++ drop (length (textOf D)) (x .out .now)) (readFile s) (C .contents) (x .out .now) (C .is)),
+    )
 
 pub holder-file-spec : {M : Type 1} → statement M
 holder-file-spec =
     tie.close
     (tie.spec
-    or-when-requires
-    or-when-requires-2
+    lent-refusal-requires
     returns
-    print-file-requires
+    read-file-requires
+    returns-2
+    print-told-requires
     same-length
-    returns-2)
+    returns-3)

@@ -1,0 +1,126 @@
+-- From what is read to what the calls answer and leave.
+use Prim.Native.Nat.{ℕ, _-_, _≤_}
+use mathlib.Core.Bool.{Bool, true, false, false≢true}
+use mathlib.Core.List.{List, [], _∷_, _++_}
+use mathlib.Core.Path.{_≡_, refl, sym, ap, subst, _∙_}
+use native.Mathlib.Omega.{arith}
+use borrow.Author.Tests.{le-ltb, eq-eqb}
+use lib.ListN.{length, getD, take, drop, replicate, length-append, length-replicate, take-append-drop}
+use lib.Seq.{length-take-le, take-at, take-append-seam, drop-append-seam}
+use Rattle.base.specs.Choice.{pick}
+use Rattle.base.specs.Rules.{refusal, Answer, refused, given}
+use Rattle.base.specs.Search.{first}
+use Rattle.scheme.specs.declared.Fate.the-variants.{Kept, Aborted}
+use Rattle.scheme.specs.Setup.{setupOf, dim}
+use Rattle.scheme.specs.Dealing.{isKept, saidReject}
+use Rattle.report.specs.Text.{Printed}
+use Rattle.report.specs.Report.{setupLine, dealingLine, verdictLine, outcomeLine, keptLines, printed}
+use Rattle.file_reading.specs.declared.Reading.{Reading}
+use Rattle.file_reading.specs.declared.Told.{Told}
+use Rattle.file_reading.specs.Contents.{Contents, judgement, fateOf, fate, keptShares}
+use Rattle.file_reading.specs.File.{FileRead, refusedAt, whole, readFile, numberOf, byteOf, told, eight, paramsOf}
+use Rattle.file_reading.specs.Inner.{Tells}
+use Rattle.file_reading.proofs.Steps.{not-whole, same-contents}
+use Rattle.file_reading.proofs.Whole.{HasContents, file-some, file-inside, whole-is-setup, whole-row}
+use Rattle.holder_file.specs.Text.{textOf, lineOf}
+use Rattle.holder_file.specs.Calls.{atByte, fileAnswer, fileLeft, lentFile}
+
+-- WHAT A FILE TELLS IS PRINTED AS ITS TEXT
+module _ (C : Contents) (l : C .setup .l ≤ 8) (m : C .setup .l ≤ length (C .g)) where
+  pub told-eight : length (told C .shares) ≡ 8
+  told-eight = go (isKept (C .setup) (C .verdicts))
+    where
+      go : (b : Bool) → length (eight (pick b (take (C .setup .l) (C .g)) [])) ≡ 8
+      go true =
+          let k = length-take-le (C .setup .l) (C .g) m in
+          omega (arith, length-append (take (C .setup .l) (C .g)) (replicate (8 - length (take (C .setup .l) (C .g))) 0), length-replicate {A = ℕ} (8 - length (take (C .setup .l) (C .g))) 0, k)
+      go false = refl
+
+  kept-told : keptLines (fate C) (take (C .setup .l) (told C .shares)) ≡ keptLines (fate C) (take (C .setup .l) (C .g))
+  unfolding fateOf keptLines
+  kept-told = go (isKept (C .setup) (C .verdicts))
+    where
+      i : ℕ
+      i = first (saidReject (C .verdicts)) (C .setup .n)
+
+      go : (b : Bool) → keptLines (pick b Kept (Aborted i)) (take (C .setup .l) (eight (pick b (take (C .setup .l) (C .g)) []))) ≡ keptLines (pick b Kept (Aborted i)) (take (C .setup .l) (C .g))
+      go true = ap (keptLines Kept) (take-at (take (C .setup .l) (C .g)) _ (C .setup .l) (length-take-le (C .setup .l) (C .g) m))
+      go false = refl
+
+  pub text-told : printed (setupOf (told C .setup) []) (C .dealing) (C .holder) (judgement C) (fate C) (take (C .setup .l) (told C .shares)) ≡ textOf C
+  unfolding textOf
+  text-told =
+      let S = C .setup in
+      ap (λ (x : List ℕ). setupLine (S .p) (S .l) (S .e) (S .n) ++ dealingLine (C .dealing) (C .holder) ++ verdictLine (judgement C) ++ outcomeLine (fate C) ++ x) kept-told
+
+-- THE CALLS' OWN RULES
+pub lent-ok : (s out : List ℕ) (n : ℕ) → length s ≤ 4096 → length out ≡ n → refusal (lentFile s out n) ≡ 0
+lent-ok s out n l e = rw (le-ltb 4096 (length s) l, eq-eqb (length out) n e) refl
+
+-- A REFUSED FILE
+pub refused-is : (x : FileRead) (k byte : ℕ) → k ≡ numberOf x → byte ≡ byteOf x → (k ≡ 0 → ⊥) → x ≡ refusedAt k byte
+refused-is (refusedAt j b) k byte e f n = rw (e, f) refl
+refused-is (whole C) k byte e f n = absurd (n e)
+
+pub refused-answer : (values : Contents → List ℕ) (x : FileRead) (k byte : ℕ) → x ≡ refusedAt k byte → atByte k byte ≡ fileAnswer values x
+refused-answer values x k byte e = rw e refl
+
+pub refused-left : (new : Contents → List ℕ) (x : FileRead) (k byte : ℕ) (old : List ℕ) → x ≡ refusedAt k byte → old ≡ fileLeft new x old
+refused-left new x k byte old e = rw e refl
+
+pub at-answer : (values : Contents → List ℕ) (x : FileRead) (k byte : ℕ) → atByte k byte ≡ fileAnswer values x → x ≡ refusedAt k byte
+at-answer values (refusedAt j b) k byte e =
+    let f : byte ≡ b = ap (λ (a : Answer). getD (a .values) 0 0) e in
+    rw (ap (λ (a : Answer). a .number) e, f) refl
+at-answer values (whole C) k byte e = absurd (false≢true (ap (λ (a : Answer). a .answered) e))
+
+pub inside : (s : List ℕ) (k byte : ℕ) → readFile s ≡ refusedAt k byte → byte ≤ length s
+inside s k byte e = subst (λ (x : FileRead). byteOf x ≤ length s) e (file-inside s)
+
+-- only what is lent is refused with no byte
+pub never-plain : (n : ℕ) (x : FileRead) (k : ℕ) → refused k ≡ fileAnswer (λ C. length (textOf C) ∷ []) x → ⊥
+never-plain n (refusedAt j b) k e = omega (arith, ap (λ (a : Answer). length (a .values)) e)
+never-plain n (whole C) k e = false≢true (ap (λ (a : Answer). a .answered) e)
+
+-- A TEXT THAT WAS PRINTED
+pub printed-left : {b t a : List ℕ} {r : ℕ} → Printed b t a r → a ≡ t ++ drop (length t) b
+printed-left {b} {t} {a} {r} w =
+    sym (take-append-drop r a) ∙ ap (λ (u : List ℕ). u ++ drop r a) (w .text) ∙ ap (λ (u : List ℕ). t ++ u) (w .rest) ∙ ap (λ (n : ℕ). t ++ drop n b) (w .count)
+
+left-printed : (b t a : List ℕ) (r : ℕ) → r ≡ length t → a ≡ t ++ drop (length t) b → Printed b t a r
+left-printed b t a r e q =
+    rw (e, q) (record { text = take-append-seam t (drop (length t) b); rest = drop-append-seam t (drop (length t) b); count = refl; fits = omega (arith, length-append t (drop (length t) b)) })
+
+pub bytes-answer : (x : FileRead) (n : ℕ) (out left : List ℕ) → given (n ∷ []) ≡ fileAnswer (λ C. length (textOf C) ∷ []) x
+    → left ≡ fileLeft (λ C. textOf C ++ drop (length (textOf C)) out) x out → Printed out (lineOf x) left n
+bytes-answer (refusedAt k byte) n out left e q = absurd (false≢true (sym (ap (λ (a : Answer). a .answered) e)))
+bytes-answer (whole C) n out left e q = left-printed out (textOf C) left n (ap (λ (a : Answer). getD (a .values) 0 0) e) q
+
+pub whole-answer : (values : Contents → List ℕ) (x : FileRead) (C : Contents) → x ≡ whole C → given (values C) ≡ fileAnswer values x
+whole-answer values x C e = rw e refl
+
+pub whole-left : (new : Contents → List ℕ) (x : FileRead) (C : Contents) (old : List ℕ) → x ≡ whole C → new C ≡ fileLeft new x old
+whole-left new x C old e = rw e refl
+
+-- A FILE THAT WAS READ TO ITS END
+module _ (s : List ℕ) (r : Reading) (w : Tells (readFile s) r) (z : r .refusal ≡ 0) where
+  pub contents : HasContents (readFile s)
+  contents = file-some s (sym (w .number) ∙ z)
+
+  pub told-is : r .told ≡ told (contents .contents)
+  told-is = w .contents (contents .contents) (contents .is)
+
+  pub secrets-few : contents .contents .setup .l ≤ 8
+  secrets-few = whole-is-setup s (contents .contents) (contents .is) .limits .secret .1
+
+  pub secrets-in : contents .contents .setup .l ≤ length (contents .contents .g)
+  secrets-in = omega (arith, whole-row s (contents .contents) (contents .is))
+
+  pub told-text : printed (setupOf (r .told .setup) []) (r .told .dealing) (r .told .holder) (r .told .outcome .judgement) (r .told .outcome .fate) (take (r .told .setup .l) (r .told .shares))
+      ≡ textOf (contents .contents)
+  told-text =
+      ap (λ (u : Told). printed (setupOf (u .setup) []) (u .dealing) (u .holder) (u .outcome .judgement) (u .outcome .fate) (take (u .setup .l) (u .shares))) told-is
+      ∙ text-told (contents .contents) secrets-few secrets-in
+
+  pub told-fits : (r .told .setup .l ≤ 8) × (length (r .told .shares) ≡ 8)
+  told-fits = rw told-is (secrets-few, told-eight (contents .contents) secrets-few secrets-in)
