@@ -78,14 +78,20 @@ pub inside : (s : List ℕ) (k byte : ℕ) → readFile s ≡ refusedAt k byte �
 inside s k byte e = subst (λ (x : FileRead). byteOf x ≤ length s) e (file-inside s)
 
 -- only what is lent is refused with no byte
-pub never-plain : (n : ℕ) (x : FileRead) (k : ℕ) → refused k ≡ fileAnswer (λ C. length (textOf C) ∷ []) x → ⊥
-never-plain n (refusedAt j b) k e = omega (arith, ap (λ (a : Answer). length (a .values)) e)
-never-plain n (whole C) k e = false≢true (ap (λ (a : Answer). a .answered) e)
+pub never-plain : (x : FileRead) (k : ℕ) → refused k ≡ fileAnswer (λ C. length (textOf C) ∷ []) x → ⊥
+never-plain (refusedAt j b) k e = omega (arith, ap (λ (a : Answer). length (a .values)) e)
+never-plain (whole C) k e = false≢true (ap (λ (a : Answer). a .answered) e)
 
 -- A TEXT THAT WAS PRINTED
 pub printed-left : {b t a : List ℕ} {r : ℕ} → Printed b t a r → a ≡ t ++ drop (length t) b
 printed-left {b} {t} {a} {r} w =
     sym (take-append-drop r a) ∙ ap (λ (u : List ℕ). u ++ drop r a) (w .text) ∙ ap (λ (u : List ℕ). t ++ u) (w .rest) ∙ ap (λ (n : ℕ). t ++ drop n b) (w .count)
+
+pub printed-as : {b t u a : List ℕ} {r : ℕ} → t ≡ u → Printed b t a r → Printed b u a r
+printed-as {b} {t} {u} {a} {r} e w = subst (λ (x : List ℕ). Printed b x a r) e w
+
+pub printed-on : {b d t a : List ℕ} {r : ℕ} → b ≡ d → Printed b t a r → Printed d t a r
+printed-on {b} {d} {t} {a} {r} e w = subst (λ (x : List ℕ). Printed x t a r) e w
 
 left-printed : (b t a : List ℕ) (r : ℕ) → r ≡ length t → a ≡ t ++ drop (length t) b → Printed b t a r
 left-printed b t a r e q =

@@ -1,7 +1,7 @@
 -- A refused file leaves the buffer; else the text stands at its start and the rest of the buffer is as it was.
 use Prim.Native.Nat.{ℕ}
-use mathlib.Core.List.{List, [], _∷_, _++_}
-use mathlib.Core.Path.{_≡_, refl, sym, ap, subst, _∙_}
+use mathlib.Core.List.{[], _∷_, _++_}
+use mathlib.Core.Path.{_≡_, refl, sym, ap, _∙_}
 use native.Mathlib.Omega.{arith}
 use borrow.Author.Tests.{ltb-false, eqb-true, not-false}
 use lib.Dec.{eqb}
@@ -9,11 +9,10 @@ use lib.ListN.{length, drop}
 use Rattle.base.specs.Rules.{refusal, refused, given}
 use Rattle.scheme.proofs.Calls.{declined, unchanged}
 use Rattle.records.proofs.Calls.{accepted, written, passed}
-use Rattle.report.specs.Text.{Printed}
 use Rattle.file_reading.specs.File.{readFile}
 use Rattle.holder_file.specs.Text.{textOf}
 use Rattle.holder_file.specs.Calls.{lentFile}
-use Rattle.holder_file.proofs.Laws.{refused-is, refused-answer, refused-left, printed-left, whole-answer, whole-left, contents, told-text, told-fits}
+use Rattle.holder_file.proofs.Laws.{refused-is, refused-answer, refused-left, printed-left, printed-as, whole-answer, whole-left, contents, told-text, told-fits}
 use borrow.Author.Needs.{needs}
 use Rattle.holder_file.proofs.holder_file.Statement.{statement}
 use Rattle.holder_file.proofs.holder_file.Tie as tie
@@ -72,7 +71,7 @@ returns-3 c =
     let w = c .before .before .before .before .before .before .read-file .ensures in
     let y = c .before .before .before .before .before .if2 .left in
     let C = contents s r w y in
-    let P = subst (λ (u : List ℕ). Printed (x .out .now) u _ _) (told-text s r w y) (c .before .before .print-told .ensures) in (
+    let P = printed-as (told-text s r w y) (c .before .before .print-told .ensures) in (
       ap (λ (n : ℕ). given (n ∷ [])) (P .count) ∙ whole-answer (λ D. length (textOf D) ∷ []) (readFile s) (C .contents) (C .is) ∙ accepted R _ z,
       written R _ _ _ z (printed-left P ∙ whole-left (λ D. textOf D ++ drop (length (textOf D)) (x .out .now)) (readFile s) (C .contents) (x .out .now) (C .is)),
     )
