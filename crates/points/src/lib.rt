@@ -2,19 +2,19 @@
 // are in order.
 ghost use mathlib.Core.Path.{_≡_};
 ghost use mathlib.Core.List.{[]};
-ghost use Prim.Native.Nat.{_+_, _*_, _%_, _<_, _≤_};
+ghost use Prim.Native.Nat.{_*_, _%_, _<_, _≤_};
 ghost use lib.Dec.{eqb};
 ghost use lib.ListN.{length};
 ghost use Rattle.base.specs.Choice.{pick};
 ghost use Rattle.base.specs.Rules.{refusal, given};
-ghost use Rattle.base.specs.Fill.{filled};
+ghost use Rattle.base.specs.Fill.{tab, filled};
 ghost use Rattle.base.specs.Matrix.{flat};
 ghost use Rattle.field.specs.Prime.{Prime, Inverses};
 ghost use Rattle.linear.specs.Polynomial.{minus, basis, point};
 ghost use Rattle.scheme.specs.Setup.{setupOf};
 ghost use Rattle.scheme.specs.Answers.{answerBy, paperWritten};
 ghost use Rattle.scheme.specs.Calls.{pointsCall, pointsLeft};
-ghost use Rattle.points.specs.Grid.{weightOf, weightsOf, RowWritten, pointsSizes};
+ghost use Rattle.points.specs.Grid.{weightOf, weightsOf, pointsRow, rowEntry, HasRows, pointsSizes};
 use scheme::Params;
 use scheme::Written;
 
@@ -77,30 +77,55 @@ fn point(p: u16, d: usize, i: usize, j: usize, w: u16) -> u16
     field::product(p, w, basis_at(p, d, j, d + i))
 }
 
-// Row i of the points matrix into the lent matrix, where the rows above stand already.
-fn write_row(p: u16, d: usize, i: usize, by: &[u16; 16], matrix: &mut [u16])
-    requires { ⌜ (1 < p) × (d ≤ 16) × (i ≤ 32) × (now by ≡ weightsOf p d) × (i * d + d ≤ length (now matrix)) ⌝ }
-    ensures { λ _. ⌜ RowWritten p d i (now (matrix .entry)) (now (matrix .exit)) ⌝ }
+// Row i of the points matrix: d entries, then zeros.
+fn row(p: u16, d: usize, i: usize, by: &[u16; 16]) -> [u16; 16]
+    requires { ⌜ (1 < p) × (d ≤ 16) × (i ≤ 32) × (now by ≡ weightsOf p d) ⌝ }
+    ensures { λ r. ⌜ r ≡ pointsRow p d i ⌝ }
 {
+    let mut entries = [0u16; 16];
     let mut j = 0;
     while j < d {
-        matrix[i * d + j] = point(p, d, i, j, by[j]);
+        entries[j] = point(p, d, i, j, by[j]);
         j += 1;
+    }
+    entries
+}
+
+// The n rows of the points matrix, into the lent rows.
+fn fill_rows(p: u16, d: usize, n: usize, by: &[u16; 16], rows: &mut [[u16; 16]])
+    requires { ⌜ (1 < p) × (d ≤ 16) × (n ≤ 32) × (now by ≡ weightsOf p d) × (length (now rows) ≡ 32) ⌝ }
+    ensures { λ _. ⌜ now (rows .exit) ≡ filled (pointsRow p d) n (now (rows .entry)) ⌝ }
+{
+    let mut i = 0;
+    while i < n {
+        rows[i] = row(p, d, i, by);
+        i += 1;
     }
 }
 
-// The points matrix, by rows, into the lent matrix.
+// The first d entries of each of the n rows, flat, into the lent matrix.
+fn write_flat(d: usize, n: usize, rows: &[[u16; 16]], matrix: &mut [u16])
+    requires { ⌜ length (now matrix) ≡ n * d ⌝ }
+    requires { ⌜ HasRows d n (now rows) ⌝ }
+    ensures { λ _. ⌜ now (matrix .exit) ≡ filled (flat d (rowEntry (now (rows .entry)))) (n * d) (now (matrix .entry)) ⌝ }
+{
+    let mut i = 0;
+    while i < n {
+        base::copy(matrix, i * d, &rows[i], 0, d);
+        i += 1;
+    }
+}
+
+// The points matrix, row by row in a local array, then flat in the lent matrix.
 fn write_points(p: u16, d: usize, n: usize, matrix: &mut [u16])
     requires { ⌜ (d ≤ 16) × (n ≤ 32) × (length (now matrix) ≡ n * d) ⌝ }
     requires { ⌜ Prime p ⌝ }
-    ensures { λ _. ⌜ now (matrix .exit) ≡ filled (flat d (point p d)) (n * d) (now (matrix .entry)) ⌝ }
+    ensures { λ _. ⌜ now (matrix .exit) ≡ tab (n * d) (flat d (point p d)) ⌝ }
 {
     let by = weights(p, d);
-    let mut i = 0;
-    while i < n {
-        write_row(p, d, i, &by, matrix);
-        i += 1;
-    }
+    let mut rows = [[0u16; 16]; 32];
+    fill_rows(p, d, n, &by, &mut rows);
+    write_flat(d, n, &rows, matrix);
 }
 
 // Refusals 1 to 3 of `points`.

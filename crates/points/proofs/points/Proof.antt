@@ -10,7 +10,6 @@ use Rattle.scheme.specs.Points.{pointsMatrix}
 use Rattle.scheme.specs.Setup.{setupOf}
 use Rattle.scheme.proofs.Calls.{unchanged, limits-prime}
 use Rattle.points.proofs.Grid.{not-lowered, sizes-ok, whole-table}
-use Rattle.base.proofs.Fill.{filled-all}
 use Rattle.points.proofs.points.Statement.{statement}
 use Rattle.points.proofs.points.Tie as tie
 
@@ -73,7 +72,7 @@ returns c =
     let z : sizes .result ≡ 0 = omega (arith, h, e .if1 .taken) in
     let none : late .result ≡ 0 = omega (arith, h, e .if1 .taken) in (
       e .before .written .ensures ∙ ap (λ r. answerBy r (given [])) w,
-      rw (← w, none) (rw D at (c .before .before .write-points .ensures) ∙ filled-all _ _ _ (sizes-ok S (sym (sizes .ensures) ∙ z) .1)),
+      rw (← w, none) (rw D at (c .before .before .write-points .ensures)),
     )
 
 same-length-2 : tie.Need-same-length-2
