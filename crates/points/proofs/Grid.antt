@@ -1,8 +1,9 @@
 -- The laws of the points matrix as it is worked out, and of the table of its call without the last rule.
 use Prim.Native.Nat.{ℕ, zero, suc, _+_, _*_, _/_, _%_, _≤_, _<_}
 use mathlib.Core.Path.{_≡_, refl, _∙_}
-use mathlib.Core.Bool.{Bool}
+use mathlib.Core.Bool.{Bool, true}
 use mathlib.Core.List.{List, []}
+use mathlib.Core.Logic.{_≢_, ⊎-elim}
 use native.Mathlib.Numerals.{add-one}
 use native.Mathlib.Omega.{arith}
 use lib.Dec.{eqb, ltb}
@@ -15,6 +16,8 @@ use Rattle.base.specs.Matrix.{flat}
 use Rattle.base.proofs.Fill.{length-filled, getD-filled, filled-all, tab-ext}
 use Rattle.base.proofs.Matrix.{place-at}
 use Rattle.field.proofs.Congruence.{mul-mod-mod, mod-mul-mod}
+use Rattle.field.specs.Fields.{isField}
+use Rattle.field.proofs.Fields.{field-five}
 use Rattle.linear.specs.Polynomial.{minus, basis, lagrange, point}
 use Rattle.scheme.specs.Setup.{Setup, dim, Limits}
 use Rattle.scheme.specs.Calls.{pointsRules}
@@ -62,6 +65,11 @@ module _ (p d n : ℕ) (z : List (List ℕ)) (small : d ≤ 16) (room : n ≤ le
   rows-flat x e =
       filled-all _ (n * d) x e
       ∙ tab-ext (n * d) _ (flat d (point p d)) (λ t h. let w = place-at d n t h in rows-at (t / d) (t % d) (w .1) (w .2))
+
+-- of the five, what is none of four is the fifth
+pub largest : (p : ℕ) → isField p ≡ true → p ≢ 2 → p ≢ 7 → p ≢ 251 → p ≢ 257 → p ≡ 65521
+largest p t i j k l =
+    ⊎-elim (λ e. absurd (i e)) (⊎-elim (λ e. absurd (j e)) (⊎-elim (λ e. absurd (k e)) (⊎-elim (λ e. absurd (l e)) (λ e. e)))) (field-five p t)
 
 -- a number that stands is not lowered by a later rule
 pub not-lowered : (r k : ℕ) (b : Bool) → r ≤ orWhen r k b

@@ -1,6 +1,7 @@
 // The points matrix: the open call. It first works out its refusal by the table of scheme's specs/Calls.antt; where there is none it works on inputs that
 // are in order.
 ghost use mathlib.Core.Path.{_≡_};
+ghost use mathlib.Core.Bool.{true};
 ghost use mathlib.Core.List.{[]};
 ghost use Prim.Native.Nat.{_*_, _%_, _<_, _≤_};
 ghost use lib.Dec.{eqb};
@@ -10,11 +11,13 @@ ghost use Rattle.base.specs.Rules.{refusal, given};
 ghost use Rattle.base.specs.Fill.{tab, filled};
 ghost use Rattle.base.specs.Matrix.{flat};
 ghost use Rattle.field.specs.Prime.{Prime, Inverses};
+ghost use Rattle.field.specs.Fields.{isField};
 ghost use Rattle.linear.specs.Polynomial.{minus, basis, point};
 ghost use Rattle.scheme.specs.Setup.{setupOf};
 ghost use Rattle.scheme.specs.Answers.{answerBy, paperWritten};
 ghost use Rattle.scheme.specs.Calls.{pointsCall, pointsLeft};
 ghost use Rattle.points.specs.Grid.{weightOf, weightsOf, pointsRow, rowEntry, HasRows, pointsSizes};
+use field::Field;
 use scheme::Params;
 use scheme::Written;
 
@@ -91,8 +94,8 @@ fn row(p: u16, d: usize, i: usize, by: &[u16; 16]) -> [u16; 16]
     entries
 }
 
-// The n rows of the points matrix, into the lent rows.
-fn fill_rows(p: u16, d: usize, n: usize, by: &[u16; 16], rows: &mut [[u16; 16]])
+// The n rows of the points matrix, into the lent rows: the loop.
+fn fill_rows_by(p: u16, d: usize, n: usize, by: &[u16; 16], rows: &mut [[u16; 16]])
     requires { ⌜ (1 < p) × (d ≤ 16) × (n ≤ 32) × (now by ≡ weightsOf p d) × (length (now rows) ≡ 32) ⌝ }
     ensures { λ _. ⌜ now (rows .exit) ≡ filled (pointsRow p d) n (now (rows .entry)) ⌝ }
 {
@@ -100,6 +103,21 @@ fn fill_rows(p: u16, d: usize, n: usize, by: &[u16; 16], rows: &mut [[u16; 16]])
     while i < n {
         rows[i] = row(p, d, i, by);
         i += 1;
+    }
+}
+
+// The n rows of the points matrix, into the lent rows. The modulus is a constant in each loop.
+fn fill_rows(p: u16, d: usize, n: usize, by: &[u16; 16], rows: &mut [[u16; 16]])
+    requires { ⌜ (d ≤ 16) × (n ≤ 32) × (now by ≡ weightsOf p d) × (length (now rows) ≡ 32) ⌝ }
+    requires { ⌜ isField p ≡ true ⌝ }
+    ensures { λ _. ⌜ now (rows .exit) ≡ filled (pointsRow p d) n (now (rows .entry)) ⌝ }
+{
+    match p {
+        Field::P2 => fill_rows_by(2, d, n, by, rows),
+        Field::P7 => fill_rows_by(7, d, n, by, rows),
+        Field::P251 => fill_rows_by(251, d, n, by, rows),
+        Field::P257 => fill_rows_by(257, d, n, by, rows),
+        _ => fill_rows_by(65521, d, n, by, rows),
     }
 }
 
@@ -119,7 +137,7 @@ fn write_flat(d: usize, n: usize, rows: &[[u16; 16]], matrix: &mut [u16])
 // The points matrix, row by row in a local array, then flat in the lent matrix.
 fn write_points(p: u16, d: usize, n: usize, matrix: &mut [u16])
     requires { ⌜ (d ≤ 16) × (n ≤ 32) × (length (now matrix) ≡ n * d) ⌝ }
-    requires { ⌜ Prime p ⌝ }
+    requires { ⌜ isField p ≡ true ⌝ }
     ensures { λ _. ⌜ now (matrix .exit) ≡ tab (n * d) (flat d (point p d)) ⌝ }
 {
     let by = weights(p, d);

@@ -1,63 +1,106 @@
--- The first i rows are those of the points matrix.
-use Prim.Native.Nat.{_-_, _≤_}
-use mathlib.Core.Path.{_≡_}
-use native.Mathlib.Nat.{le-antisymm}
+-- Each arm of the match is the loop with the number itself as its modulus; what is left is 65521.
 use native.Mathlib.Omega.{arith}
 use borrow.Author.Needs.{needs}
-use lib.ListN.{length, length-set}
-use Rattle.base.specs.Fill.{filled}
-use Rattle.base.proofs.Fill.{filled-none, filled-store}
-use Rattle.points.specs.Grid.{pointsRow}
+use Rattle.points.proofs.Grid.{largest}
 use Rattle.points.proofs.fill_rows.Statement.{statement}
 use Rattle.points.proofs.fill_rows.Tie as tie
 
-abbrev Inv-loop : tie.InvT-loop
-Inv-loop p d n by rows₀ i₀ rows i = (i ≤ n) × (length rows ≡ length rows₀) × (rows ≡ filled (pointsRow p d) i rows₀)
+fill-rows-by-requires : tie.Need-fill-rows-by-requires
+fill-rows-by-requires c κs = (
+  omega arith,
+  c .before .before .pre .0 .0,
+  c .before .before .pre .0 .1,
+  rw (c .before .match .keys1) at (c .before .before .pre .0 .2),
+  c .before .before .pre .0 .3,
+)
 
-abbrev μ-loop : tie.MeasureT-loop
-μ-loop p d n by rows₀ i₀ rows i = n - i
+fill-rows-by-requires-2 : tie.Need-fill-rows-by-requires-2
+fill-rows-by-requires-2 c κs = (
+  omega arith,
+  c .before .before .pre .0 .0,
+  c .before .before .pre .0 .1,
+  rw (c .before .match .keys2) at (c .before .before .pre .0 .2),
+  c .before .before .pre .0 .3,
+)
 
-loop-holds : tie.Need-loop-holds Inv-loop μ-loop
-loop-holds c = (search needs, search needs, filled-none _ _)
+fill-rows-by-requires-3 : tie.Need-fill-rows-by-requires-3
+fill-rows-by-requires-3 c κs = (
+  omega arith,
+  c .before .before .pre .0 .0,
+  c .before .before .pre .0 .1,
+  rw (c .before .match .keys3) at (c .before .before .pre .0 .2),
+  c .before .before .pre .0 .3,
+)
 
-row-requires : tie.Need-row-requires Inv-loop μ-loop
-row-requires c κs = search needs
+fill-rows-by-requires-4 : tie.Need-fill-rows-by-requires-4
+fill-rows-by-requires-4 c κs = (
+  omega arith,
+  c .before .before .pre .0 .0,
+  c .before .before .pre .0 .1,
+  rw (c .before .match .keys4) at (c .before .before .pre .0 .2),
+  c .before .before .pre .0 .3,
+)
 
-mul-t9 : tie.Need-mul-t9 Inv-loop μ-loop
-mul-t9 c = search needs
+fill-rows-by-requires-5 : tie.Need-fill-rows-by-requires-5
+fill-rows-by-requires-5 c κs =
+    let s = c .before .before in
+    let n = c .before .match .rest in (
+      omega arith,
+      s .pre .0 .0,
+      s .pre .0 .1,
+      rw (largest (s .args .p) (s .pre .1) (n .0 .0 .0 .1) (n .0 .0 .1) (n .0 .1) (n .1)) at (s .pre .0 .2),
+      s .pre .0 .3,
+    )
 
-slice-set-from-rows : tie.Need-slice-set-from-rows Inv-loop μ-loop
-slice-set-from-rows c = search needs
+same-length : tie.Need-same-length
+same-length c = search needs
 
-add-i : tie.Need-add-i Inv-loop μ-loop
-add-i c = search needs
+returns : tie.Need-returns
+returns c = rw (c .before .before .before .match .keys1) (c .before .fill-rows-by .ensures)
 
-loop-less : tie.Need-loop-less Inv-loop μ-loop
-loop-less c = search needs
+same-length-2 : tie.Need-same-length-2
+same-length-2 c = search needs
 
-loop-again : tie.Need-loop-again Inv-loop μ-loop
-loop-again c =
-    let l = c .before .before .loop in
-    (search needs, simp length-set (l .inv .1), filled-store _ _ _ _ _ (l .inv .2) (c .row .ensures))
+returns-2 : tie.Need-returns-2
+returns-2 c = rw (c .before .before .before .match .keys2) (c .before .fill-rows-by2 .ensures)
 
-same-length : tie.Need-same-length Inv-loop μ-loop
-same-length c = c .before .loop .inv .1
+same-length-3 : tie.Need-same-length-3
+same-length-3 c = search needs
 
-returns : tie.Need-returns Inv-loop μ-loop
-returns c = rw (le-antisymm (c .before .loop .inv .0) (c .loop-test .left)) at (c .before .loop .inv .2)
+returns-3 : tie.Need-returns-3
+returns-3 c = rw (c .before .before .before .match .keys3) (c .before .fill-rows-by3 .ensures)
+
+same-length-4 : tie.Need-same-length-4
+same-length-4 c = search needs
+
+returns-4 : tie.Need-returns-4
+returns-4 c = rw (c .before .before .before .match .keys4) (c .before .fill-rows-by4 .ensures)
+
+same-length-5 : tie.Need-same-length-5
+same-length-5 c = search needs
+
+returns-5 : tie.Need-returns-5
+returns-5 c =
+    let s = c .before .before .before .before in
+    let n = c .before .before .before .match .rest in
+    rw (largest (s .args .p) (s .pre .1) (n .0 .0 .0 .1) (n .0 .0 .1) (n .0 .1) (n .1)) (c .before .fill-rows-by5 .ensures)
 
 pub fill-rows-spec : {M : Type 1} → statement M
 fill-rows-spec =
     tie.close
     (tie.spec
-    Inv-loop
-    μ-loop
-    loop-holds
-    row-requires
-    mul-t9
-    slice-set-from-rows
-    add-i
-    loop-less
-    loop-again
+    fill-rows-by-requires
+    fill-rows-by-requires-2
+    fill-rows-by-requires-3
+    fill-rows-by-requires-4
+    fill-rows-by-requires-5
     same-length
-    returns)
+    returns
+    same-length-2
+    returns-2
+    same-length-3
+    returns-3
+    same-length-4
+    returns-4
+    same-length-5
+    returns-5)

@@ -8,7 +8,7 @@ use Rattle.base.specs.Rules.{given}
 use Rattle.scheme.specs.Answers.{answerBy}
 use Rattle.scheme.specs.Points.{pointsMatrix}
 use Rattle.scheme.specs.Setup.{setupOf}
-use Rattle.scheme.proofs.Calls.{unchanged, limits-prime}
+use Rattle.scheme.proofs.Calls.{unchanged}
 use Rattle.points.proofs.Grid.{not-lowered, sizes-ok, whole-table}
 use Rattle.points.proofs.points.Statement.{statement}
 use Rattle.points.proofs.points.Tie as tie
@@ -52,7 +52,7 @@ write-points-requires c κs =
         omega (arith, ok .0 .holders),
         ok .1 ∙ ap (λ d. x .s .n * d) (sym D),
       ),
-      limits-prime S (ok .0),
+      ok .0 .field,
     )
 
 same-length : tie.Need-same-length

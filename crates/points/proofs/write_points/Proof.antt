@@ -2,12 +2,13 @@
 use mathlib.Core.Path.{_∙_}
 use native.Mathlib.Omega.{arith}
 use borrow.Author.Needs.{needs}
+use Rattle.field.proofs.Fields.{field-prime}
 use Rattle.points.proofs.Grid.{has-rows, rows-flat}
 use Rattle.points.proofs.write_points.Statement.{statement}
 use Rattle.points.proofs.write_points.Tie as tie
 
 weights-requires : tie.Need-weights-requires
-weights-requires c κs = search needs
+weights-requires c κs = (c .before .pre .0 .0, field-prime _ (c .before .pre .1))
 
 slice-aggregate-fill-rows : tie.Need-slice-aggregate-fill-rows
 slice-aggregate-fill-rows c = search needs
@@ -15,7 +16,7 @@ slice-aggregate-fill-rows c = search needs
 fill-rows-requires : tie.Need-fill-rows-requires
 fill-rows-requires c κs =
     let s = c .before .before .before .before in
-    (s .pre .1 .big, omega arith, omega arith, c .before .before .weights .ensures, search needs)
+    ((omega arith, omega arith, c .before .before .weights .ensures, search needs), s .pre .1)
 
 slice-aggregate-write-flat : tie.Need-slice-aggregate-write-flat
 slice-aggregate-write-flat c = search needs
