@@ -11,12 +11,13 @@ ghost use Rattle.base.specs.Rules.{refusal, given};
 ghost use Rattle.base.specs.Fill.{tab, filled};
 ghost use Rattle.base.specs.Matrix.{flat};
 ghost use Rattle.field.specs.Prime.{Prime, Inverses};
-ghost use Rattle.field.specs.Fields.{isField};
+ghost use Rattle.field.specs.Fields.{isField, orderOf};
 ghost use Rattle.linear.specs.Polynomial.{minus, basis, point};
 ghost use Rattle.scheme.specs.Setup.{setupOf};
 ghost use Rattle.scheme.specs.Answers.{answerBy, paperWritten};
 ghost use Rattle.scheme.specs.Calls.{pointsCall, pointsLeft};
 ghost use Rattle.points.specs.Grid.{weightOf, weightsOf, pointsRow, rowEntry, HasRows, pointsSizes};
+use field::Chosen;
 use field::Field;
 use scheme::Params;
 use scheme::Written;
@@ -164,17 +165,30 @@ fn written(refusal: u16) -> Written
     Written::Done
 }
 
-// The points matrix into the lent matrix. Nothing is written before the last rule, 15, is known not to apply.
+// The points matrix over a field into the lent matrix. Nothing is written before the last rule, 15, is known not to apply.
+fn points_in(field: Field, s: Params, matrix: &mut [u16]) -> Written
+    requires { ⌜ orderOf field ≡ s .p ⌝ }
+    ensures { λ r. ⌜ paperWritten r ≡ pointsCall (setupOf s (now (matrix .entry))) ⌝ }
+    ensures { λ _. ⌜ now (matrix .exit) ≡ pointsLeft (setupOf s (now (matrix .entry))) ⌝ }
+{
+    let p = field.order();
+    let d = scheme::dim(s);
+    let early = points_sizes(s, matrix);
+    let refusal = base::or_when(early, 15, (p as usize) < d + (s.n as usize));
+    let answer = written(refusal);
+    if refusal == 0 {
+        write_points(p, d, s.n as usize, matrix);
+    }
+    answer
+}
+
+// The points matrix into the lent matrix.
 pub fn points(s: Params, matrix: &mut [u16]) -> Written
     ensures { λ r. ⌜ paperWritten r ≡ pointsCall (setupOf s (now (matrix .entry))) ⌝ }
     ensures { λ _. ⌜ now (matrix .exit) ≡ pointsLeft (setupOf s (now (matrix .entry))) ⌝ }
 {
-    let d = scheme::dim(s);
-    let early = points_sizes(s, matrix);
-    let refusal = base::or_when(early, 15, (s.p as usize) < d + (s.n as usize));
-    let answer = written(refusal);
-    if refusal == 0 {
-        write_points(s.p, d, s.n as usize, matrix);
+    match Field::new(s.p) {
+        Chosen::Of(field) => points_in(field, s, matrix),
+        Chosen::NoField => Written::Refused(1),
     }
-    answer
 }
