@@ -1,11 +1,12 @@
 -- The five are primes, and what the constructor's answer says.
 use mathlib.Core.Path.{_≡_, refl, ap, sym, _∙_}
-use mathlib.Core.Bool.{Bool, true, false, not, false≢true}
+use mathlib.Core.Bool.{Bool, true, false, false≢true}
 use mathlib.Core.List.{[], _∷_}
 use mathlib.Core.Logic.{_⊎_, inl, inr, ⊎-elim}
 use Prim.Native.Nat.{ℕ}
 use native.Mathlib.Omega.{arith}
 use lib.Dec.{eqb}
+use lib.ListN.{getD}
 use borrow.Author.Tests.{eqb-true, ne-eqb}
 use Rattle.base.specs.Choice.{pick}
 use Rattle.base.specs.Rules.{Answer, refused, given}
@@ -54,17 +55,17 @@ field-five p = go (eqb p 2) refl (eqb p 7) refl (eqb p 251) refl (eqb p 257) ref
 pub field-prime : (p : ℕ) → isField p ≡ true → Prime p
 field-prime p t = five-elim p Prime prime-2 prime-7 prime-251 prime-257 prime-65521 (field-five p t)
 
--- the constructor's answer is refused exactly where p is none of the five
-pub refused-is : (p : ℕ) → paper NoField ≡ fieldAnswer p → true ≡ not (isField p)
-refused-is p = go (isField p)
+-- the field that the constructor gives is the one asked for, and one of the five; it gives none exactly where p is none of them
+pub chosen-of : (p q : ℕ) → given (q ∷ []) ≡ fieldAnswer p → (isField p ≡ true) × (q ≡ p)
+chosen-of p q = go (isField p)
   where
-    go : (b : Bool) → refused 1 ≡ pick b (given (p ∷ [])) (refused 1) → true ≡ not b
+    go : (b : Bool) → given (q ∷ []) ≡ pick b (given (p ∷ [])) (refused 1) → (b ≡ true) × (q ≡ p)
+    go true e = (refl, ap (λ (a : Answer). getD (a .values) 0 0) e)
+    go false e = absurd (let z : _≡_ {A = ℕ} 0 1 = ap (λ (a : Answer). a .number) e in omega arith)
+
+pub refused-of : (p : ℕ) → paper NoField ≡ fieldAnswer p → isField p ≡ false
+refused-of p = go (isField p)
+  where
+    go : (b : Bool) → refused 1 ≡ pick b (given (p ∷ [])) (refused 1) → b ≡ false
     go true e = absurd (let z : _≡_ {A = ℕ} 1 0 = ap (λ (a : Answer). a .number) e in omega arith)
     go false e = refl
-
-pub chosen-is : (p q : ℕ) → given (q ∷ []) ≡ fieldAnswer p → false ≡ not (isField p)
-chosen-is p q = go (isField p)
-  where
-    go : (b : Bool) → given (q ∷ []) ≡ pick b (given (p ∷ [])) (refused 1) → false ≡ not b
-    go true e = refl
-    go false e = absurd (let z : _≡_ {A = ℕ} 0 1 = ap (λ (a : Answer). a .number) e in omega arith)

@@ -3,11 +3,11 @@ ghost use mathlib.Core.Path.{_≡_};
 ghost use mathlib.Core.Bool.{not};
 ghost use Prim.Native.Nat.{_-_, _*_, _%_, _<_, _≤_};
 ghost use Rattle.field.specs.Prime.{Prime, Inverse, Inverses};
-ghost use Rattle.field.specs.Fields.{isField, fieldAnswer, paper};
+ghost use Rattle.field.specs.Fields.{isField, fieldAnswer, orderOf, paper};
 
-// A field, by its number of elements.
+// A field, by its number of elements. The number is private: outside this crate the constructor alone gives a field.
 pub struct Field {
-    pub p: u16,
+    p: u16,
 }
 
 // The answer to the wish for a field: the field, or refusal 1.
@@ -36,6 +36,13 @@ impl Field {
             }
             _ => Chosen::NoField,
         }
+    }
+
+    // The number of elements.
+    pub fn order(self) -> u16
+        ensures { λ r. ⌜ r ≡ orderOf self ⌝ }
+    {
+        self.p
     }
 }
 
@@ -395,14 +402,4 @@ pub fn inverse_by(table: &[u16; 257], p: u16, a: u16) -> u16
         Field::P257 => inverse_257(table, a),
         _ => inverse_worked(p, a),
     }
-}
-
-// The inverse of an element; 0 for 0.
-pub fn inverse(p: u16, a: u16) -> u16
-    requires { ⌜ a < p ⌝ }
-    requires { ⌜ Prime p ⌝ }
-    ensures { λ r. ⌜ Inverse p a r ⌝ }
-{
-    let table = inverses();
-    inverse_by(&table, p, a)
 }

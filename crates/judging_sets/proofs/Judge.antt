@@ -71,7 +71,7 @@ aside-row l e m ms i from x a s h =
     ∙ ap (λ k. filled (flat (l + e) G) k x) (omega arith)
 
 -- REDUCED SYSTEMS
-module _ (S : Setup) (s : ℕ) (ok : SetOk S s) (k d : ℕ) (out : List ℕ) (W : Walked s k out) (D : d ≡ dim S) where
+module _ (S : Setup) (s : ℕ) (ok : SetOk S s) (k d : ℕ) (out : List ℕ) {before : List ℕ} (W : Walked s k before out) (D : d ≡ dim S) where
   module _ (q : ℕ) (x u : List ℕ) (room : Fresh (dim S) (length (members 32 (holds s)) + 1) x u) where
     pub across-asks : (d ≤ 16) × (length (take k out) ≤ 32) × (length x ≡ d * (length (take k out) + 1))
     across-asks = rw (D, listed S s ok k d out W D) (narrow S s ok, few S s ok, rw (wide S s ok) at (room .size))

@@ -48,7 +48,7 @@ beside-row d m ms xs i from x a s e =
     (λ j l. rw (zero-add j, lt-ltb j d l, s) refl))
     (at xs i) refl (rw (le-ltb d d (omega arith)) refl)
 
-module _ (S : Setup) (s : ℕ) (ok : SetOk S s) (k d : ℕ) (out : List ℕ) (W : Walked s k out) (D : d ≡ dim S) where
+module _ (S : Setup) (s : ℕ) (ok : SetOk S s) (k d : ℕ) (out : List ℕ) {before : List ℕ} (W : Walked s k before out) (D : d ≡ dim S) where
   pub beside-asks : (xs : List ℕ) → Vec (S .p) (length (members 32 (holds s))) xs → (x u : List ℕ) → Fresh (length (members 32 (holds s))) (dim S + 1) x u
       → (d ≤ 16) × (length (take k out) ≡ length xs) × (length x ≡ length (take k out) * (d + 1))
   beside-asks xs v x u room = rw (W .list, D) (narrow S s ok, sym (v .size), room .size)
@@ -169,7 +169,7 @@ module _ (S : Setup) (s : ℕ) (ok : SetOk S s) (xs : List ℕ) where
               ∙ sym (shown-shows (S .p) k (dim S + 1) (buffers a u) T shows (dim S) (omega arith) q)))
           go (refuted z y h) = absurd (omega arith)
 
-module _ (S : Setup) (s : ℕ) (ok : SetOk S s) (k d : ℕ) (out : List ℕ) (W : Walked s k out) (D : d ≡ dim S)
+module _ (S : Setup) (s : ℕ) (ok : SetOk S s) (k d : ℕ) (out : List ℕ) {before : List ℕ} (W : Walked s k before out) (D : d ≡ dim S)
     (xs : List ℕ) (v : Vec (S .p) (length (members 32 (holds s))) xs) (x u a : List ℕ)
     (room : Fresh (length (members 32 (holds s))) (dim S + 1) x u)
     (loaded : a ≡ tab (length x) (flat (d + 1) (systems.beside d (S .M) (take k out) xs)))

@@ -1,7 +1,9 @@
 -- The laws of the points matrix as it is worked out, and of the table of its call without the last rule.
-use Prim.Native.Nat.{ℕ, zero, suc, _+_, _*_, _%_, _≤_, _<_}
+use Prim.Native.Nat.{ℕ, zero, suc, _+_, _*_, _/_, _%_, _≤_, _<_}
 use mathlib.Core.Path.{_≡_, refl, _∙_}
-use mathlib.Core.Bool.{Bool}
+use mathlib.Core.Bool.{Bool, true}
+use mathlib.Core.List.{List, []}
+use mathlib.Core.Logic.{_≢_, ⊎-elim}
 use native.Mathlib.Numerals.{add-one}
 use native.Mathlib.Omega.{arith}
 use lib.Dec.{eqb, ltb}
@@ -9,13 +11,18 @@ use lib.ListN.{length, getD}
 use Rattle.base.specs.Choice.{pick}
 use Rattle.base.specs.Rules.{orWhen, refusal}
 use Rattle.base.proofs.Rules.{clear}
-use Rattle.base.proofs.Fill.{getD-filled}
+use Rattle.base.specs.Fill.{tab, filled}
+use Rattle.base.specs.Matrix.{flat}
+use Rattle.base.proofs.Fill.{length-filled, getD-filled, filled-all, tab-ext}
+use Rattle.base.proofs.Matrix.{place-at}
 use Rattle.field.proofs.Congruence.{mul-mod-mod, mod-mul-mod}
+use Rattle.field.specs.Fields.{isField}
+use Rattle.field.proofs.Fields.{field-five}
 use Rattle.linear.specs.Polynomial.{minus, basis, lagrange, point}
 use Rattle.scheme.specs.Setup.{Setup, dim, Limits}
 use Rattle.scheme.specs.Calls.{pointsRules}
 use Rattle.scheme.proofs.Calls.{limits-of, size-is}
-use Rattle.points.specs.Grid.{zeros, weightOf, weightsOf, pointsSizes}
+use Rattle.points.specs.Grid.{zeros, weightOf, weightsOf, pointsRow, rowEntry, HasRows, pointsSizes}
 
 -- a basis begins at 1 and takes one factor more, reduced
 pub basis-none : (p j : ℕ) (a : ℕ → ℕ) (x : ℕ) → basis p 0 j a x ≡ 1
@@ -35,6 +42,34 @@ weights-at p d j hd hj = getD-filled (weightOf p d) d zeros j 0 hj (omega arith)
 pub weighed : (p d i j : ℕ) → weightOf p d j * (basis p d j (λ t. t) (d + i) % p) % p ≡ point p d i j
 unfolding point lagrange weightOf
 weighed p d i j = mul-mod-mod _ _ p
+
+-- the n rows, and that their entries written flat are the matrix
+module _ (p d n : ℕ) (z : List (List ℕ)) (small : d ≤ 16) (room : n ≤ length z) where
+  row-at : (i : ℕ) → i < n → getD (filled (pointsRow p d) n z) i [] ≡ filled (point p d i) d zeros
+  unfolding pointsRow
+  row-at i h = getD-filled (pointsRow p d) n z i [] h (omega arith)
+
+  pub has-rows : HasRows d n (filled (pointsRow p d) n z)
+  unfolding zeros
+  has-rows = record {
+    count = omega (arith, length-filled (pointsRow p d) n z);
+    wide = λ i h. rw (row-at i h) (omega (arith, length-filled (point p d i) d zeros));
+  }
+
+  rows-at : (i j : ℕ) → i < n → j < d → rowEntry (filled (pointsRow p d) n z) i j ≡ point p d i j
+  unfolding zeros
+  rows-at i j h l = rw (row-at i h) (getD-filled (point p d i) d zeros j 0 l (omega arith))
+
+  pub rows-flat : (x : List ℕ) → length x ≡ n * d
+      → filled (flat d (rowEntry (filled (pointsRow p d) n z))) (n * d) x ≡ tab (n * d) (flat d (point p d))
+  rows-flat x e =
+      filled-all _ (n * d) x e
+      ∙ tab-ext (n * d) _ (flat d (point p d)) (λ t h. let w = place-at d n t h in rows-at (t / d) (t % d) (w .1) (w .2))
+
+-- of the five, what is none of four is the fifth
+pub largest : (p : ℕ) → isField p ≡ true → p ≢ 2 → p ≢ 7 → p ≢ 251 → p ≢ 257 → p ≡ 65521
+largest p t i j k l =
+    ⊎-elim (λ e. absurd (i e)) (⊎-elim (λ e. absurd (j e)) (⊎-elim (λ e. absurd (k e)) (⊎-elim (λ e. absurd (l e)) (λ e. e)))) (field-five p t)
 
 -- a number that stands is not lowered by a later rule
 pub not-lowered : (r k : ℕ) (b : Bool) → r ≤ orWhen r k b

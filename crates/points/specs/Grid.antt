@@ -1,15 +1,15 @@
--- What the points matrix is worked out by, and the rules of its call up to 3.
--- zeros: the weights as they begin
+-- What the points matrix is worked out by, as a local array of 32 rows of 16 entries holds it, and the rules of its call up to 3.
+-- zeros: the weights and a row as they begin
 -- weightOf: the inverse of the basis of node j at its own node
 -- weightsOf: the weights of the d nodes
--- RowWritten: what write_row leaves
+-- pointsRow: row i with its d entries, then zeros
+-- rowEntry: entry j of row i of an array of rows
+-- HasRows: the array has n rows of at least d entries
 -- pointsSizes: the table of `points` without its last rule, 15
-use Prim.Native.Nat.{ℕ, _+_, _*_, _%_}
-use mathlib.Core.Path.{_≡_}
+use Prim.Native.Nat.{ℕ, _*_, _%_, _≤_, _<_}
 use mathlib.Core.List.{List, [], _∷_, _++_}
-use lib.ListN.{replicate}
+use lib.ListN.{length, getD, replicate}
 use Rattle.base.specs.Fill.{filled}
-use Rattle.base.specs.Matrix.{flat}
 use Rattle.base.specs.Rules.{Rule}
 use Rattle.field.specs.Prime.{inverseOf}
 use Rattle.linear.specs.Polynomial.{basis, point}
@@ -25,9 +25,15 @@ weightOf p d j = inverseOf p (basis p d j (λ t. t) j % p)
 unfoldable pub weightsOf : ℕ → ℕ → List ℕ
 weightsOf p d = filled (weightOf p d) d zeros
 
--- where the first i rows of x are written before, the first i + 1 are after
-pub record RowWritten (p d i : ℕ) (a b : List ℕ) : Type 0 where
-  pub matrix : (x : List ℕ) → a ≡ filled (flat d (point p d)) (i * d) x → b ≡ filled (flat d (point p d)) ((i + 1) * d) x
+unfoldable pub pointsRow : ℕ → ℕ → ℕ → List ℕ
+pointsRow p d i = filled (point p d i) d zeros
+
+abbrev pub rowEntry : List (List ℕ) → ℕ → ℕ → ℕ
+rowEntry rows i j = getD (getD rows i []) j 0
+
+pub record HasRows (d n : ℕ) (rows : List (List ℕ)) : Type 0 where
+  pub count : n ≤ length rows
+  pub wide : (i : ℕ) → i < n → d ≤ length (getD rows i [])
 
 abbrev pub pointsSizes : Setup → List Rule
 pointsSizes S = limits S ++ size (S .M) (S .n * dim S) ∷ []

@@ -1,15 +1,15 @@
 -- Why a set that is not refused has its members listed by the walk, their rows in the matrix, and room in local buffers.
--- taken: a list written entry by entry at the start of a buffer is what its start holds
+-- taken, untouched: a list written entry by entry at the start of a buffer is what its start holds, and the rest is as it was
 -- prime-of, wide, few, narrow, row-inside, entry-small: what a set and a setup in order give
 -- counted, listed, lie: the walk lists the members, and their rows lie in the matrix
 -- private-by: the number of members decides whether the set is private
 -- zeros, part-size, fresh: a part of a local buffer of zeros
-use mathlib.Core.Path.{_≡_, sym, ap, _∙_}
-use mathlib.Core.List.{List}
-use Prim.Native.Nat.{ℕ, _+_, _*_, _≤_, _<_}
+use mathlib.Core.Path.{_≡_, refl, sym, ap, _∙_}
+use mathlib.Core.List.{List, [], _∷_}
+use Prim.Native.Nat.{ℕ, zero, suc, _+_, _*_, _≤_, _<_}
 use native.Mathlib.Omega.{arith}
 use lib.Dec.{leb}
-use lib.ListN.{length, take, replicate, length-replicate, getD-replicate}
+use lib.ListN.{length, take, drop, replicate, length-replicate, getD-replicate}
 use lib.Seq.{ext-getD, getD-take, length-take-le}
 use Rattle.base.specs.Fill.{filled}
 use Rattle.base.specs.Matrix.{entry}
@@ -30,6 +30,13 @@ taken ms x k e l =
   where
     long : length (take k (filled (at ms) k x)) ≡ k
     long = length-take-le k (filled (at ms) k x) (omega (arith, length-filled (at ms) k x))
+
+-- and behind them the buffer is as it was
+pub untouched : (f : ℕ → ℕ) (k : ℕ) (x : List ℕ) → drop k (filled f k x) ≡ drop k x
+unfolding filled
+untouched f zero x = refl
+untouched f (suc k) [] = refl
+untouched f (suc k) (a ∷ x) = untouched (λ i. f (suc i)) k x
 
 -- a set in order
 module _ (S : Setup) (s : ℕ) (ok : SetOk S s) where
@@ -52,7 +59,7 @@ module _ (S : Setup) (s : ℕ) (ok : SetOk S s) where
   entry-small i j = below-vec (S .p) _ (S .M) (omega (arith, prime-of .big)) (ok .setup .matrix) (i * dim S + j)
 
 -- what the walk lists
-module _ (S : Setup) (s : ℕ) (ok : SetOk S s) (k d : ℕ) (out : List ℕ) (W : Walked s k out) (D : d ≡ dim S) where
+module _ (S : Setup) (s : ℕ) (ok : SetOk S s) (k d : ℕ) (out : List ℕ) {before : List ℕ} (W : Walked s k before out) (D : d ≡ dim S) where
   pub counted : k ≡ length (membersOf S s)
   counted = W .count ∙ ap length (wide S s ok)
 

@@ -30,10 +30,10 @@ pub fn beyond(n: u16, set: u32) -> bool
     limit <= (set as u64)
 }
 
-// The members by rising holder, into the start of 32 lent entries; gives how many.
+// The members by rising holder, into the start of 32 lent entries; gives how many. What stands behind them is left as it was.
 pub fn walk(set: u32, out: &mut [u16]) -> usize
     requires { ⌜ length (now out) ≡ 32 ⌝ }
-    ensures { λ r. ⌜ Walked set r (now (out .exit)) ⌝ }
+    ensures { λ r. ⌜ Walked set r (now (out .entry)) (now (out .exit)) ⌝ }
 {
     let mut rest = set;
     let mut k = 0;

@@ -1,35 +1,32 @@
--- Where nothing is refused, there are at most 64 constants and as many shares, so that the product of the two lists is the combination.
-use Prim.Native.Nat.{_%_}
-use mathlib.Core.Path.{sym, ap, _∙_}
-use mathlib.Core.List.{[], _∷_}
-use native.Mathlib.Omega.{arith}
+-- The field given is that of p; where none is given, 1 is the refusal.
+use mathlib.Core.Path.{refl, sym, ap, _∙_}
 use borrow.Author.Needs.{needs}
-use Rattle.base.specs.Rules.{given}
-use Rattle.field.proofs.Fields.{field-prime}
-use Rattle.scheme.specs.Opening.{combine}
-use Rattle.scheme.proofs.Calls.{declined, combine-ok}
-use Rattle.judging.proofs.Products.{dot-whole}
+use Rattle.field.specs.Fields.{paper}
+use Rattle.field.proofs.Fields.{chosen-of, refused-of}
 use Rattle.judging.proofs.combine.Statement.{statement}
 use Rattle.judging.proofs.combine.Tie as tie
 
-combine-refusal-requires : tie.Need-combine-refusal-requires
-combine-refusal-requires c κs = search needs
+new-requires : tie.Need-new-requires
+new-requires c κs = search needs
+
+enum-known-field : tie.Need-enum-known-field
+enum-known-field c = search needs
+
+combine-in-requires : tie.Need-combine-in-requires
+combine-in-requires c κs =
+    let f = chosen-of _ _ (ap paper (sym (c .before .field .given .1)) ∙ c .before .before .before .new .ensures) in
+    rw (f .1) (f .0)
+
+enum-told : tie.Need-enum-told
+enum-told c = search needs
 
 returns : tie.Need-returns
-returns c = rw (← c .before .combine-refusal .ensures) (declined _ _ (c .if1 .taken))
-
-dot-product-requires : tie.Need-dot-product-requires
-dot-product-requires c κs =
-    let x = c .before .before .before .before .args in
-    let ok = combine-ok (x .p) (x .constants .now) (x .shares .now) (sym (c .before .combine-refusal .ensures) ∙ c .if1 .left) in
-    ((omega (arith, field-prime (x .p) (ok .field) .big), omega (arith, ok .few), omega arith), λ k l. omega (arith, ok .shares .size))
+returns c =
+    let f = chosen-of _ _ (ap paper (sym (c .before .before .field .given .1)) ∙ c .before .before .before .before .new .ensures) in
+    rw (f .1) at (c .combine-in .ensures)
 
 returns-2 : tie.Need-returns-2
-unfolding combine
-returns-2 c =
-    let x = c .before .before .before .before .before .args in
-    let z = sym (c .before .before .combine-refusal .ensures) ∙ c .before .if1 .left in
-    rw z (ap (λ v. given (v ∷ [])) (c .dot-product .ensures ∙ ap (λ n. n % x .p) (dot-whole _ (x .constants .now) (x .shares .now))))
+returns-2 c = rw (refused-of _ (ap paper (sym (c .enum-told .given .1)) ∙ c .before .before .new .ensures)) refl
 
 pub combine-spec : {M : Type 1} → statement M
-combine-spec = tie.close (tie.spec combine-refusal-requires returns dot-product-requires returns-2)
+combine-spec = tie.close (tie.spec new-requires enum-known-field combine-in-requires enum-told returns returns-2)

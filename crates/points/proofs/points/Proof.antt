@@ -1,109 +1,42 @@
--- The rules up to 3 make the writing safe: the matrix has n rows of d places, and all are filled. That 15 does not apply either is what lets it be written.
-use Prim.Native.Nat.{_*_, _≤_}
-use mathlib.Core.Path.{_≡_, sym, ap, _∙_}
-use mathlib.Core.List.{[]}
-use native.Mathlib.Omega.{arith}
+-- The field given is that of s.p; where none is given, 1 is the refusal and nothing is written.
+use mathlib.Core.Path.{refl, sym, ap, _∙_}
 use borrow.Author.Needs.{needs}
-use Rattle.base.specs.Rules.{given}
-use Rattle.scheme.specs.Answers.{answerBy}
-use Rattle.scheme.specs.Points.{pointsMatrix}
-use Rattle.scheme.specs.Setup.{setupOf}
-use Rattle.scheme.proofs.Calls.{unchanged, limits-prime}
-use Rattle.points.proofs.Grid.{not-lowered, sizes-ok, whole-table}
-use Rattle.base.proofs.Fill.{filled-all}
+use Rattle.field.specs.Fields.{paper}
+use Rattle.field.proofs.Fields.{chosen-of, refused-of}
 use Rattle.points.proofs.points.Statement.{statement}
 use Rattle.points.proofs.points.Tie as tie
 
-dim-requires : tie.Need-dim-requires
-dim-requires c κs = search needs
+new-requires : tie.Need-new-requires
+new-requires c κs = search needs
 
-points-sizes-requires : tie.Need-points-sizes-requires
-points-sizes-requires c κs = search needs
+enum-known-field : tie.Need-enum-known-field
+enum-known-field c = search needs
 
-cast-or-when : tie.Need-cast-or-when
-cast-or-when c = search needs
+points-in-requires : tie.Need-points-in-requires
+points-in-requires c κs = chosen-of _ _ (ap paper (sym (c .before .before .field .given .1)) ∙ c .before .before .before .before .new .ensures) .1
 
-cast-or-when-2 : tie.Need-cast-or-when-2
-cast-or-when-2 c = search needs
-
-add-or-when : tie.Need-add-or-when
-add-or-when c = search needs
-
-or-when-requires : tie.Need-or-when-requires
-or-when-requires c κs = search needs
-
-written-requires : tie.Need-written-requires
-written-requires c κs = search needs
-
-cast-write-points : tie.Need-cast-write-points
-cast-write-points c = search needs
-
-write-points-requires : tie.Need-write-points-requires
-write-points-requires c κs =
-    let e = c .before .before in
-    let x = e .before .before .before .before .before .before .before .before .before .args in
-    let S = setupOf (x .s) (x .matrix .now) in
-    let D = e .before .before .before .before .before .before .before .dim .ensures .0 in
-    let sizes = e .before .before .before .before .before .points-sizes in
-    let h : sizes .result ≤ e .before .before .or-when .result = rw (e .before .before .or-when .ensures) (not-lowered _ _ _) in
-    let z : sizes .result ≡ 0 = omega (arith, h, e .if1 .taken) in
-    let ok = sizes-ok S (sym (sizes .ensures) ∙ z) in (
-      (
-        omega (arith, ok .0 .secret, ok .0 .random, D),
-        omega (arith, ok .0 .holders),
-        ok .1 ∙ ap (λ d. x .s .n * d) (sym D),
-      ),
-      limits-prime S (ok .0),
-    )
+enum-told : tie.Need-enum-told
+enum-told c = search needs
 
 same-length : tie.Need-same-length
 same-length c = search needs
 
 returns : tie.Need-returns
-unfolding pointsMatrix
-returns c =
-    let e = c .before .before .before .before .before in
-    let x = e .before .before .before .before .before .before .before .before .before .args in
-    let S = setupOf (x .s) (x .matrix .now) in
-    let D = e .before .before .before .before .before .before .before .dim .ensures .0 in
-    let sizes = e .before .before .before .before .before .points-sizes in
-    let late = e .before .before .or-when in
-    let w = whole-table S (sizes .result) (late .result) _ (sizes .ensures) D (late .ensures) in
-    let h : sizes .result ≤ late .result = rw (late .ensures) (not-lowered _ _ _) in
-    let z : sizes .result ≡ 0 = omega (arith, h, e .if1 .taken) in
-    let none : late .result ≡ 0 = omega (arith, h, e .if1 .taken) in (
-      e .before .written .ensures ∙ ap (λ r. answerBy r (given [])) w,
-      rw (← w, none) (rw D at (c .before .before .write-points .ensures) ∙ filled-all _ _ _ (sizes-ok S (sym (sizes .ensures) ∙ z) .1)),
-    )
-
-same-length-2 : tie.Need-same-length-2
-same-length-2 c = search needs
+returns c = search needs
 
 returns-2 : tie.Need-returns-2
 returns-2 c =
-    let x = c .before .before .before .before .before .before .before .before .before .args in
-    let S = setupOf (x .s) (x .matrix .now) in
-    let D = c .before .before .before .before .before .before .before .dim .ensures .0 in
-    let sizes = c .before .before .before .before .before .points-sizes in
-    let late = c .before .before .or-when in
-    let w = whole-table S (sizes .result) (late .result) _ (sizes .ensures) D (late .ensures) in
-    let h : sizes .result ≤ late .result = rw (late .ensures) (not-lowered _ _ _) in
-    (c .before .written .ensures ∙ ap (λ r. answerBy r (given [])) w, rw (← w) (unchanged (late .result) _ _ (λ z. c .if1 .left (omega (arith, h, z)))))
+    let n = refused-of _ (ap paper (sym (c .enum-told .given .1)) ∙ c .before .before .new .ensures) in
+    (rw n refl, rw n refl)
 
 pub points-spec : {M : Type 1} → statement M
 points-spec =
     tie.close
     (tie.spec
-    dim-requires
-    points-sizes-requires
-    cast-or-when
-    cast-or-when-2
-    add-or-when
-    or-when-requires
-    written-requires
-    cast-write-points
-    write-points-requires
+    new-requires
+    enum-known-field
+    points-in-requires
+    enum-told
     same-length
     returns
-    same-length-2
     returns-2)

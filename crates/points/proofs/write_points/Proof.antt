@@ -1,67 +1,50 @@
--- The first i rows are those of the points matrix.
-use Prim.Native.Nat.{_-_, _*_, _≤_}
-use mathlib.Core.Path.{_≡_}
-use native.Mathlib.Nat.{le-antisymm, zero-mul}
+-- The local rows are those of the points matrix, so what is written flat is the matrix.
+use mathlib.Core.Path.{_∙_}
 use native.Mathlib.Omega.{arith}
 use borrow.Author.Needs.{needs}
-use lib.ListN.{length}
-use Rattle.base.specs.Fill.{filled}
-use Rattle.base.specs.Matrix.{flat}
-use Rattle.base.proofs.Fill.{filled-none}
-use Rattle.base.proofs.Matrix.{row-fits}
-use Rattle.linear.specs.Polynomial.{point}
+use Rattle.field.proofs.Fields.{field-prime}
+use Rattle.points.proofs.Grid.{has-rows, rows-flat}
 use Rattle.points.proofs.write_points.Statement.{statement}
 use Rattle.points.proofs.write_points.Tie as tie
 
-abbrev Inv-loop : tie.InvT-loop
-Inv-loop p d n matrix₀ by i₀ matrix i = (i ≤ n) × (length matrix ≡ length matrix₀) × (matrix ≡ filled (flat d (point p d)) (i * d) matrix₀)
+weights-requires : tie.Need-weights-requires
+weights-requires c κs = (c .before .pre .0 .0, field-prime _ (c .before .pre .1))
 
-abbrev μ-loop : tie.MeasureT-loop
-μ-loop p d n matrix₀ by i₀ matrix i = n - i
+slice-aggregate-fill-rows : tie.Need-slice-aggregate-fill-rows
+slice-aggregate-fill-rows c = search needs
 
-weights-requires : tie.Need-weights-requires Inv-loop μ-loop
-weights-requires c κs = search needs
+fill-rows-requires : tie.Need-fill-rows-requires
+fill-rows-requires c κs =
+    let s = c .before .before .before .before in
+    ((omega arith, omega arith, c .before .before .weights .ensures, search needs), s .pre .1)
 
-loop-holds : tie.Need-loop-holds Inv-loop μ-loop
-loop-holds c = (search needs, search needs, rw zero-mul (filled-none _ _))
+slice-aggregate-write-flat : tie.Need-slice-aggregate-write-flat
+slice-aggregate-write-flat c = search needs
 
-write-row-requires : tie.Need-write-row-requires Inv-loop μ-loop
-write-row-requires c κs =
-    let s = c .before .before .before .before .before .before in
-    let l = c .before .before .before .loop in (
-      s .pre .1 .big,
-      omega arith,
-      omega arith,
-      c .before .before .before .before .weights .ensures,
-      omega (arith, row-fits (s .args .n) (s .args .d) (l .i) (omega arith)),
-    )
+write-flat-requires : tie.Need-write-flat-requires
+write-flat-requires c κs =
+    let s = c .before .before .before .before .before .before .before .before in
+    let f = c .before .before .before .fill-rows .ensures in
+    (s .pre .0 .2, rw f (has-rows (s .args .p) (s .args .d) (s .args .n) _ (omega arith) (omega arith)))
 
-add-i : tie.Need-add-i Inv-loop μ-loop
-add-i c = search needs
-
-loop-less : tie.Need-loop-less Inv-loop μ-loop
-loop-less c = search needs
-
-loop-again : tie.Need-loop-again Inv-loop μ-loop
-loop-again c = (search needs, search needs, c .before .before .write-row .ensures .matrix _ (c .before .before .before .before .before .before .loop .inv .2))
-
-same-length : tie.Need-same-length Inv-loop μ-loop
+same-length : tie.Need-same-length
 same-length c = search needs
 
-returns : tie.Need-returns Inv-loop μ-loop
-returns c = rw (le-antisymm (c .before .loop .inv .0) (c .loop-test .left)) at (c .before .loop .inv .2)
+returns : tie.Need-returns
+returns c =
+    let s = c .before .before .before .before .before .before .before .before .before .before .before in
+    let f = c .before .before .before .before .before .before .fill-rows .ensures in
+    rw f at (c .before .before .write-flat .ensures)
+    ∙ rows-flat (s .args .p) (s .args .d) (s .args .n) _ (omega arith) (omega arith) _ (s .pre .0 .2)
 
 pub write-points-spec : {M : Type 1} → statement M
 write-points-spec =
     tie.close
     (tie.spec
-    Inv-loop
-    μ-loop
     weights-requires
-    loop-holds
-    write-row-requires
-    add-i
-    loop-less
-    loop-again
+    slice-aggregate-fill-rows
+    fill-rows-requires
+    slice-aggregate-write-flat
+    write-flat-requires
     same-length
     returns)

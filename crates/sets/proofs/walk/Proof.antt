@@ -9,7 +9,7 @@ use Rattle.base.specs.Fill.{filled}
 use Rattle.linear.specs.Dot.{at}
 use Rattle.scheme.proofs.Members.{Left, left-start, left-turn, left-member, left-place, left-end, next-less, members-le}
 use Rattle.scheme.specs.Sets.{holds, members}
-use Rattle.sets.proofs.Members.{taken}
+use Rattle.sets.proofs.Members.{taken, untouched}
 use Rattle.sets.proofs.walk.Statement.{statement}
 use Rattle.sets.proofs.walk.Tie as tie
 
@@ -52,7 +52,13 @@ returns : tie.Need-returns Inv-loop μ-loop
 returns c =
     let l = c .before .loop in
     let e = left-end (l .inv .0) (c .loop-test .left) in
-    record { count = e; fits = omega (arith, members-le 32 (holds (c .before .before .args .set))); list = rw (l .inv .2) (taken _ _ _ e (omega (arith, members-le 32 (holds (c .before .before .args .set)), c .before .before .pre))) }
+    let room = members-le 32 (holds (c .before .before .args .set)) in
+    record {
+      count = e;
+      fits = omega (arith, room);
+      list = rw (l .inv .2) (taken _ _ _ e (omega (arith, room, c .before .before .pre)));
+      behind = rw (l .inv .2) (untouched (at (members 32 (holds (c .before .before .args .set)))) (l .k) (c .before .before .args .out .now));
+    }
 
 pub walk-spec : {M : Type 1} → statement M
 walk-spec =
