@@ -1,5 +1,5 @@
 -- From what is read to what the calls answer and leave.
-use Prim.Native.Nat.{ℕ, _-_, _≤_}
+use Prim.Native.Nat.{ℕ, _+_, _-_, _≤_}
 use mathlib.Core.Bool.{Bool, true, false, false≢true}
 use mathlib.Core.List.{List, [], _∷_, _++_}
 use mathlib.Core.Path.{_≡_, refl, sym, ap, subst, _∙_}
@@ -10,6 +10,8 @@ use lib.Seq.{length-take-le, take-at, take-append-seam, drop-append-seam}
 use Rattle.base.specs.Choice.{pick}
 use Rattle.base.specs.Rules.{refusal, Answer, refused, given}
 use Rattle.base.specs.Search.{first}
+use Rattle.base.specs.Fill.{laid}
+use Rattle.base.proofs.Fill.{tab-is, laid-whole}
 use Rattle.scheme.specs.declared.Fate.the-variants.{Kept, Aborted}
 use Rattle.scheme.specs.Setup.{setupOf, dim}
 use Rattle.scheme.specs.Dealing.{isKept, saidReject}
@@ -23,7 +25,7 @@ use Rattle.file_reading.specs.Inner.{Tells}
 use Rattle.file_reading.proofs.Steps.{not-whole, same-contents}
 use Rattle.file_reading.proofs.Whole.{HasContents, file-some, file-inside, whole-is-setup, whole-row}
 use Rattle.holder_file.specs.Text.{textOf, lineOf}
-use Rattle.holder_file.specs.Calls.{atByte, fileAnswer, fileLeft, lentFile}
+use Rattle.holder_file.specs.Calls.{atByte, fileAnswer, fileLeft, lentFile, judged, settled, numbers}
 
 -- WHAT A FILE TELLS IS PRINTED AS ITS TEXT
 module _ (C : Contents) (l : C .setup .l ≤ 8) (m : C .setup .l ≤ length (C .g)) where
@@ -130,3 +132,31 @@ module _ (s : List ℕ) (r : Reading) (w : Tells (readFile s) r) (z : r .refusal
 
   pub told-fits : (r .told .setup .l ≤ 8) × (length (r .told .shares) ≡ 8)
   told-fits = rw told-is (secrets-few, told-eight (contents .contents) secrets-few secrets-in)
+
+-- THE NUMBERS
+-- a list of eight entries, entry by entry
+pub eight-entries : (x : List ℕ) → length x ≡ 8
+    → getD x 0 0 ∷ getD x 1 0 ∷ getD x 2 0 ∷ getD x 3 0 ∷ getD x 4 0 ∷ getD x 5 0 ∷ getD x 6 0 ∷ getD x 7 0 ∷ [] ≡ x
+eight-entries (a ∷ b ∷ c ∷ d ∷ e ∷ f ∷ g ∷ h ∷ []) l = refl
+eight-entries [] l = absurd (omega arith)
+eight-entries (a ∷ []) l = absurd (omega arith)
+eight-entries (a ∷ b ∷ []) l = absurd (omega arith)
+eight-entries (a ∷ b ∷ c ∷ []) l = absurd (omega arith)
+eight-entries (a ∷ b ∷ c ∷ d ∷ []) l = absurd (omega arith)
+eight-entries (a ∷ b ∷ c ∷ d ∷ e ∷ []) l = absurd (omega arith)
+eight-entries (a ∷ b ∷ c ∷ d ∷ e ∷ f ∷ []) l = absurd (omega arith)
+eight-entries (a ∷ b ∷ c ∷ d ∷ e ∷ f ∷ g ∷ []) l = absurd (omega arith)
+eight-entries (a ∷ b ∷ c ∷ d ∷ e ∷ f ∷ g ∷ h ∷ i ∷ x) l = absurd (omega arith)
+
+pub numbers-told : (t : Told) (a b c d : ℕ) → length (t .shares) ≡ 8 → judged (t .outcome .judgement) ≡ a ∷ b ∷ [] → settled (t .outcome .fate) ≡ c ∷ d ∷ []
+    → let x = t .shares in
+    t .setup .p ∷ t .setup .l ∷ t .setup .e ∷ t .setup .n ∷ t .dealing ∷ t .holder ∷ a ∷ b ∷ c ∷ d
+    ∷ getD x 0 0 ∷ getD x 1 0 ∷ getD x 2 0 ∷ getD x 3 0 ∷ getD x 4 0 ∷ getD x 5 0 ∷ getD x 6 0 ∷ getD x 7 0 ∷ []
+    ≡ numbers t
+numbers-told t a b c d l e f = rw (e, f) (ap (λ (x : List ℕ). t .setup .p ∷ t .setup .l ∷ t .setup .e ∷ t .setup .n ∷ t .dealing ∷ t .holder ∷ a ∷ b ∷ c ∷ d ∷ x) (eight-entries (t .shares) l))
+
+-- a list written over the whole of another of its length
+pub copied : (xs old : List ℕ) (n : ℕ) → length xs ≡ n → length old ≡ n → laid (λ j. getD xs (0 + j) 0) 0 n old ≡ xs
+copied xs old n e f =
+    laid-whole (λ j. getD xs (0 + j) 0) (λ j. getD xs j 0) n 0 old f (λ k l. ap (λ (j : ℕ). getD xs j 0) (omega arith))
+    ∙ sym (tab-is n (λ j. getD xs j 0) 0 xs e (λ k l. refl))

@@ -1,6 +1,6 @@
 // A holder's file from a lent slice: its text into a lent buffer, or its contents as numbers.
 ghost use mathlib.Core.Path.{_≡_};
-ghost use mathlib.Core.List.{List, []};
+ghost use mathlib.Core.List.{List, [], _∷_};
 ghost use Prim.Native.Nat.{ℕ, _≤_};
 ghost use lib.ListN.{length, take};
 ghost use Rattle.base.specs.Rules.{refusal};
@@ -8,7 +8,7 @@ ghost use Rattle.scheme.specs.Setup.{setupOf};
 ghost use Rattle.report.specs.Text.{Printed};
 ghost use Rattle.report.specs.Report.{printed};
 ghost use Rattle.holder_file.specs.Text.{fileText};
-ghost use Rattle.holder_file.specs.Calls.{lentFile, holderFileCall, holderFileLeft, paperPrinting, numbers, fileContentsCall, fileContentsLeft, paperGiven};
+ghost use Rattle.holder_file.specs.Calls.{lentFile, holderFileCall, holderFileLeft, paperPrinting, judged, settled, numbers, fileContentsCall, fileContentsLeft, paperGiven};
 use file_reading::Told;
 use scheme::Fate;
 use scheme::Judgement;
@@ -75,4 +75,82 @@ pub fn print_file(file: &[u8], out: &mut [u8]) -> usize
         Printing::RefusedAt(k, byte) => report::report_refusal(k, byte as u16, out),
         Printing::Refused(k) => report::report_refusal(k, 0, out),
     }
+}
+
+// A verdict or an outcome as two numbers: 1 and 0, or 0 and the holder named.
+pub struct Said {
+    pub yes: u16,
+    pub named: u16,
+}
+
+fn verdict_said(judgement: Judgement) -> Said
+    ensures { λ r. ⌜ judged judgement ≡ r .yes ∷ r .named ∷ [] ⌝ }
+{
+    match judgement {
+        Judgement::Accept => Said { yes: 1, named: 0 },
+        Judgement::Reject(j) => Said { yes: 0, named: j },
+    }
+}
+
+fn outcome_said(fate: Fate) -> Said
+    ensures { λ r. ⌜ settled fate ≡ r .yes ∷ r .named ∷ [] ⌝ }
+{
+    match fate {
+        Fate::Kept => Said { yes: 1, named: 0 },
+        Fate::Aborted(i) => Said { yes: 0, named: i },
+    }
+}
+
+// What a file tells, as numbers.
+fn tell_numbers(t: Told) -> [u16; 18]
+    requires { ⌜ length (t .shares) ≡ 8 ⌝ }
+    ensures { λ r. ⌜ (r ≡ numbers t) × (length r ≡ 18) ⌝ }
+{
+    let s = t.setup;
+    let outcome = t.outcome;
+    let judgement = outcome.judgement;
+    let fate = outcome.fate;
+    let x = t.shares;
+    let a = verdict_said(judgement);
+    let b = outcome_said(fate);
+    [
+        s.p,
+        s.l,
+        s.e,
+        s.n,
+        t.dealing,
+        t.holder,
+        a.yes,
+        a.named,
+        b.yes,
+        b.named,
+        x[0],
+        x[1],
+        x[2],
+        x[3],
+        x[4],
+        x[5],
+        x[6],
+        x[7],
+    ]
+}
+
+// The contents of a holder's file of at most 4,096 bytes, as 18 numbers into a lent buffer.
+pub fn file_contents(file: &[u8], contents: &mut [u16]) -> FileGiven
+    ensures answer { λ r. ⌜ paperGiven r ≡ fileContentsCall (now (file .entry)) (now (contents .entry)) ⌝ }
+    ensures buffer { λ _. ⌜ now (contents .exit) ≡ fileContentsLeft (now (file .entry)) (now (contents .entry)) ⌝ }
+{
+    let refusal = lent_refusal(file, contents.len(), 18);
+    if refusal != 0 {
+        return FileGiven::Refused(refusal);
+    }
+    let r = file_reading::read_file(file);
+    let k = r.refusal;
+    if k != 0 {
+        return FileGiven::RefusedAt(k, r.byte);
+    }
+    let told = r.told;
+    let all = tell_numbers(told);
+    base::copy(contents, 0, &all, 0, 18);
+    FileGiven::Given
 }
