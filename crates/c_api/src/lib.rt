@@ -10,11 +10,12 @@ ghost use Rattle.records.specs.Records.{writeSetupCall, writeSetupLeft, writeDe
 ghost use Rattle.records.specs.Records.{writeVerdictCall, writeVerdictLeft, writeShareCall, writeShareLeft};
 ghost use Rattle.records.specs.Records.{readSetupCall, readMatrixCall, readMatrixLeft, readDealingCall, readDealingLeftG, readDealingLeftH};
 ghost use Rattle.records.specs.Records.{readPairCall, readVerdictCall, readShareCall};
-ghost use Rattle.holder_file.specs.File.{holderFileCall, holderFileLeft};
+ghost use Rattle.holder_file.specs.Calls.{fileContentsCall, fileContentsLeft, holderFileCall, holderFileLeft};
 ghost use Rattle.judging_sets.specs.Contracts.{SetBuffer};
-ghost use Rattle.c_api.specs.Exported.{setup, place};
+ghost use Rattle.c_api.specs.Exported.{setup, place, answeredPlace, refusedPlace};
 use field::Chosen;
 use field::Field;
+use holder_file::FileGiven;
 use holder_file::Printing;
 use records::DealingRead;
 use records::DealingRecord;
@@ -36,7 +37,7 @@ use scheme::SetJudged;
 use scheme::Settled;
 use scheme::Value;
 
-// Whether there is a field of p elements.
+// Whether p is one of the five fields' numbers.
 #[no_mangle]
 pub extern "C" fn mavdrusek_field(p: u16) -> u16
     ensures { λ r. ⌜ r ≡ fieldAnswer p .number ⌝ }
@@ -630,17 +631,44 @@ pub extern "C" fn mavdrusek_read_share(
 }
 
 // THE HOLDER'S FILE
-// Prints a holder's file into a lent buffer of 256 bytes, and gives how many there are.
+// Reads a holder's file and gives its contents as 18 numbers; a refused file gives the byte where the faulty record starts.
 #[no_mangle]
-pub extern "C" fn mavdrusek_holder_file(file: &[u8], out: &mut [u8], count: &mut usize) -> u16
+pub extern "C" fn mavdrusek_read_file(file: &[u8], contents: &mut [u16], byte: &mut usize) -> u16
+    ensures answer { λ r. ⌜ r ≡ fileContentsCall (now (file .entry)) (now (contents .entry)) .number ⌝ }
+    ensures byte { λ r. ⌜ now (byte .exit) ≡ place 0 (fileContentsCall (now (file .entry)) (now (contents .entry))) (now (byte .entry)) ⌝ }
+    ensures buffer { λ r. ⌜ now (contents .exit) ≡ fileContentsLeft (now (file .entry)) (now (contents .entry)) ⌝ }
+{
+    match holder_file::file_contents(file, contents) {
+        FileGiven::Given => 0,
+        FileGiven::RefusedAt(k, at) => {
+            *byte = at;
+            k
+        }
+        FileGiven::Refused(k) => k,
+    }
+}
+
+// Prints a holder's file into a lent buffer of 256 bytes and gives how many there are; a refused file gives the byte as above.
+#[no_mangle]
+pub extern "C" fn mavdrusek_holder_file(
+    file: &[u8],
+    out: &mut [u8],
+    count: &mut usize,
+    byte: &mut usize,
+) -> u16
     ensures answer { λ r. ⌜ r ≡ holderFileCall (now (file .entry)) (now (out .entry)) .number ⌝ }
-    ensures count { λ r. ⌜ now (count .exit) ≡ place 0 (holderFileCall (now (file .entry)) (now (out .entry))) (now (count .entry)) ⌝ }
+    ensures count { λ r. ⌜ now (count .exit) ≡ answeredPlace 0 (holderFileCall (now (file .entry)) (now (out .entry))) (now (count .entry)) ⌝ }
+    ensures byte { λ r. ⌜ now (byte .exit) ≡ refusedPlace 0 (holderFileCall (now (file .entry)) (now (out .entry))) (now (byte .entry)) ⌝ }
     ensures buffer { λ r. ⌜ now (out .exit) ≡ holderFileLeft (now (file .entry)) (now (out .entry)) ⌝ }
 {
     match holder_file::holder_file(file, out) {
-        Printing::Bytes(k) => {
-            *count = k;
+        Printing::Bytes(n) => {
+            *count = n;
             0
+        }
+        Printing::RefusedAt(k, at) => {
+            *byte = at;
+            k
         }
         Printing::Refused(k) => k,
     }
