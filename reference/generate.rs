@@ -1,5 +1,5 @@
 //! Writes stored inputs and what the reference answers: `generate files INPUT OUTPUT` for the program `files`, `generate cases INPUT OUTPUT` for the
-//! program `cases`.
+//! program `cases`, `generate holder FOLDER` for the program `holder`, NAME.in and NAME.out for each of its files.
 
 mod cases;
 mod draw;
@@ -51,13 +51,23 @@ fn stored() -> (Vec<u8>, String) {
     (input, output)
 }
 
+/// Writes the files of the program `holder` into a folder.
+fn holder(folder: &str) {
+    for (name, file, text) in files::for_the_program() {
+        std::fs::write(format!("{folder}/{name}.in"), file).unwrap();
+        std::fs::write(format!("{folder}/{name}.out"), text).unwrap();
+    }
+}
+
 fn main() {
-    let args: Vec<String> = std::env::args().collect();
-    let (input, output) = match args[1].as_str() {
-        "files" => files::stored(),
-        "cases" => stored(),
-        other => panic!("neither files nor cases: {other}"),
+    let args: Vec<String> = std::env::args().skip(1).collect();
+    let args: Vec<&str> = args.iter().map(|x| x.as_str()).collect();
+    let ((input, output), to) = match args[..] {
+        ["holder", folder] => return holder(folder),
+        ["files", ref to @ ..] => (files::stored(), to),
+        ["cases", ref to @ ..] => (stored(), to),
+        _ => panic!("generate holder FOLDER, generate files INPUT OUTPUT or generate cases INPUT OUTPUT"),
     };
-    std::fs::write(&args[2], input).unwrap();
-    std::fs::write(&args[3], output).unwrap();
+    std::fs::write(to[0], input).unwrap();
+    std::fs::write(to[1], output).unwrap();
 }
