@@ -145,10 +145,11 @@ int main(void)
     }
     printf("\"\n");
 
-    /* Six of them cannot, three learn nothing, and a changed share among eight is noticed. */
+    /* Six of them cannot, three learn nothing (a sweeping vector for every position), and a changed share among eight is noticed. */
     expect(open_column(seven & ~1u, by_holder, column, &position) == 6 && position == 0, "six cannot open");
     expect(mavdrusek_private(SETUP, matrix, N * D, 7, &yes) == 0 && yes == 1, "three are private");
-    expect(mavdrusek_judge_set(SETUP, matrix, N * D, 7, 0, row, 32, &kind) == 0 && kind == 2, "three learn nothing");
+    for (uint16_t k = 0; k < L; k++)
+        expect(mavdrusek_judge_set(SETUP, matrix, N * D, 7, k, row, 32, &kind) == 0 && kind == 2, "three have a sweeping vector for every position");
     by_holder[5] = (by_holder[5] + 1) % P;
     expect(open_column(0xff, by_holder, column, &position) == 7, "a changed share is refused");
     printf("six cannot open, three learn nothing, a changed share among eight is refused\n");

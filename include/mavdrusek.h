@@ -51,7 +51,7 @@ uint16_t mavdrusek_field(uint16_t p);
 uint16_t mavdrusek_points(uint16_t p, uint16_t l, uint16_t e, uint16_t n, uint16_t *matrix, size_t matrix_len);
 
 /* Holder `holder`'s part of a dealing: g and h, d entries each. `secrets` has l * l elements, position k of secret vector b at b * l + k; `random`
- * has d * d - l * l elements, drawn evenly by the caller. Refusals 1 to 5. */
+ * has d * d - l * l elements, the other entries of the paper's F row by row, drawn evenly by the caller. Refusals 1 to 5. */
 uint16_t mavdrusek_deal(uint16_t p, uint16_t l, uint16_t e, uint16_t n, const uint16_t *matrix, size_t matrix_len, const uint16_t *secrets,
                         size_t secrets_len, const uint16_t *random, size_t random_len, uint16_t holder, uint16_t *g, size_t g_len, uint16_t *h,
                         size_t h_len);

@@ -117,12 +117,14 @@ pub fn main() -> Result<(), Refusal> {
     let bytes: Vec<u8> = opened.iter().map(|&x| x as u8).collect();
     println!("opened by holders {openers:?}: \"{}\"", String::from_utf8_lossy(&bytes));
 
-    // Six of them cannot, three learn nothing, and a changed share among eight is noticed.
+    // Six of them cannot, three learn nothing (a sweeping vector for every position), and a changed share among eight is noticed.
     let six = seven & (seven - 1);
     let handed: Vec<u16> = openers[1..].iter().map(|&i| shares[i][0]).collect();
     assert_eq!(SETUP.open(&matrix, six, &handed, &mut column), Err(Refusal::Undetermined { position: 0 }));
     assert!(SETUP.private(&matrix, 0b111)?);
-    assert_eq!(SETUP.judge_set(&matrix, 0b111, 0, &mut [0; SET_ENTRIES])?, SetKind::Vector);
+    for position in 0..4 {
+        assert_eq!(SETUP.judge_set(&matrix, 0b111, position, &mut [0; SET_ENTRIES])?, SetKind::Vector);
+    }
     let mut handed: Vec<u16> = (0..8).map(|i| shares[i][0]).collect();
     handed[5] = (handed[5] + 1) % 257;
     assert_eq!(SETUP.open(&matrix, 0xff, &handed, &mut column), Err(Refusal::Inconsistent));
