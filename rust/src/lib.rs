@@ -10,8 +10,8 @@
 //! An opening is to be made by enough honest holders: where those among the openers determine the secrets by themselves, the others can only cause
 //! a refusal. Where they do not, a false share can open to false secrets.
 //!
-//! Every call is one call of the library, which is proved against definitions; this crate only passes slices and turns numbers into types. The
-//! library tests all it is lent, lengths too, and refuses what is wrong; after a refusal every lent slice holds what it held before.
+//! Every call is one call of the library ([`read_file`] two, for the contents and the text), which is proved against definitions; this crate only
+//! passes slices and turns numbers into types. The library tests all it is lent, lengths too, and refuses what is wrong; after a refusal every lent slice holds what it held before.
 //!
 //! Types that carry shares or pair values have no `Debug` and are not `Copy`, so that they are not printed or copied in passing. Nothing is wiped:
 //! what a call worked with stays on the stack, and what a caller lent is the caller's to clear.
@@ -736,7 +736,7 @@ const CONTENTS: usize = 18;
 /// Bytes that a file's text is written into.
 const TEXT: usize = 256;
 
-/// Before a call no file has this byte, so it tells whether the call gave one.
+/// What the place for the byte holds before a call. No file is so long, so it tells whether the call gave one.
 const NO_BYTE: usize = usize::MAX;
 
 /// What a call on a file returned, as a Result.
