@@ -3,15 +3,16 @@
 //! A dealer gives a key of ℓ columns of ℓ field elements to n holders. A set of holders whose rows of the setup's matrix determine the secrets
 //! brings them back, and holders who follow the rules cannot be left with shares that open two ways.
 //!
-//! On a points matrix ([`Setup::points`]) any ℓ + e holders bring the secrets back and any e of them learn nothing; that they learn nothing is not
-//! proved yet. On another matrix the number of holders shows neither: [`Setup::determines`] says whether a set brings the secrets back, and
-//! [`Setup::judge_set`] must give a sweeping vector for every position before a set learns nothing.
+//! On a points matrix ([`Setup::points`]) any ℓ + e holders bring the secrets back and any e of them learn nothing; the library's proofs do not have
+//! that rule yet, only the answer of each call on each set. On another matrix the number of holders shows neither: [`Setup::determines`] says whether
+//! a set brings the secrets back, and a set learns nothing only where [`Setup::judge_set`] finds a sweeping vector for every position.
 //!
 //! An opening is to be made by enough honest holders: where those among the openers determine the secrets by themselves, the others can only cause
 //! a refusal. Where they do not, a false share can open to false secrets.
 //!
 //! Every call is one call of the library ([`read_file`] two, for the contents and the text), which is proved against definitions; this crate only
-//! passes slices and turns numbers into types. The library tests all it is lent, lengths too, and refuses what is wrong; after a refusal every lent slice holds what it held before.
+//! passes slices and turns numbers into types. The library tests all it is lent, lengths too, and refuses what is wrong; after a refusal every lent
+//! slice holds what it held before.
 //!
 //! Types that carry shares or pair values have no `Debug` and are not `Copy`, so that they are not printed or copied in passing. Nothing is wiped:
 //! what a call worked with stays on the stack, and what a caller lent is the caller's to clear.
@@ -343,7 +344,7 @@ impl Setup {
 /// Dealing.
 impl Setup {
     /// Writes the points matrix, n · d entries: from the values of a polynomial of degree below d at 0, .., d − 1, row i gives its value at d + i.
-    /// Any d holders then determine the secrets, and any e learn nothing (not proved yet). Refusals 1, 2, 3, 15.
+    /// Any d holders then determine the secrets, and any e learn nothing (a rule that is not proved yet). Refusals 1, 2, 3, 15.
     pub fn points(&self, matrix: &mut [u16]) -> Result<(), Refusal> {
         let Setup { p, l, e, n } = *self;
         answer(unsafe { raw::mavdrusek_points(p, l, e, n, matrix.as_mut_ptr(), matrix.len()) }, 0)
