@@ -1,5 +1,6 @@
 //! Times every call of the proved library against the same call of the reference, the peers' work on a board key, the whole collection, and how time
-//! grows. Every line is from one process: what is compared runs in turns, and a number is the median of many turns. `bench/run` builds and runs it.
+//! grows. Every line is from one process: what is compared runs in turns, and a number is the median of many turns. `bench/run` builds and runs it. The
+//! exit status is 1 where a target is missed.
 
 mod calls;
 mod collection;
@@ -48,10 +49,12 @@ fn main() {
     }
 
     println!("\ntargets");
+    let mut reached = true;
     if wanted("calls") {
-        t.verdict();
+        reached &= t.verdict();
     }
     for x in targets {
-        x.verdict();
+        reached &= x.verdict();
     }
+    std::process::exit(!reached as i32);
 }

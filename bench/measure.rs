@@ -88,13 +88,16 @@ impl Table {
 }
 
 impl Table {
-    pub fn verdict(&self) {
+    /// Says whether the target is reached, and gives it.
+    pub fn verdict(&self) -> bool {
         let words = format!("no call slower than the reference (ratio at most 1.05), {} measures", self.measures);
-        if self.slower.is_empty() {
+        let reached = self.slower.is_empty();
+        if reached {
             println!("{words}: reached, {:.3} at most ({})", self.highest.0, self.highest.1);
         } else {
             println!("{words}: not reached: {} of them: {}", self.slower.len(), self.slower.join("; "));
         }
+        reached
     }
 }
 
@@ -128,12 +131,14 @@ pub struct Target {
 }
 
 impl Target {
-    pub fn verdict(&self) {
+    /// Says whether the target is reached, and gives it. One that cannot be measured here is not missed.
+    pub fn verdict(&self) -> bool {
         match self.ratio {
             None => println!("{}: not measured, the peer is not here", self.words),
             Some(r) if r <= self.most => println!("{}: reached, {r:.3}", self.words),
             Some(r) => println!("{}: not reached: {r:.3}, target {}", self.words, self.most),
         }
+        self.ratio.is_none_or(|r| r <= self.most)
     }
 }
 

@@ -93,6 +93,9 @@ pub fn read_share(s: Params, part: &[u8], x: &mut [u16; 4]) -> u16 {
     let [dealing, holder, column, value] = x;
     unsafe { mavdrusek_read_share(s.p, s.l, s.e, s.n, part.as_ptr(), part.len(), dealing, holder, column, value) }
 }
-pub fn holder_file(file: &[u8], out: &mut [u8], count: &mut usize) -> u16 {
-    unsafe { mavdrusek_holder_file(file.as_ptr(), file.len(), out.as_mut_ptr(), out.len(), count) }
+pub fn read_file(file: &[u8], contents: &mut [u16], byte: &mut usize) -> u16 {
+    unsafe { mavdrusek_read_file(file.as_ptr(), file.len(), contents.as_mut_ptr(), contents.len(), byte) }
+}
+pub fn holder_file(file: &[u8], out: &mut [u8], count: &mut usize, byte: &mut usize) -> u16 {
+    unsafe { mavdrusek_holder_file(file.as_ptr(), file.len(), out.as_mut_ptr(), out.len(), count, byte) }
 }

@@ -170,11 +170,23 @@ pub fn records(t: &mut Table, w: &World) {
     // Sound files of accepted dealings, each with its PV and VD in another order.
     let files: Vec<Vec<u8>> = (0..TURN).map(|k| file(w, k, holder(k))).collect();
     let (mut out, mut other) = ([0u8; 256], [0u8; 256]);
-    let mut count = 0;
+    let (mut count, mut byte) = (0, 0);
+    let (mut contents, mut others) = ([0u16; 18], [0u16; 18]);
+    t.line(
+        &name("read_file"),
+        |k, look| {
+            let r = ours::read_file(&files[k], &mut contents, &mut byte);
+            give(look, || digest(r, &contents), r)
+        },
+        |k, look| {
+            let r = reference::read_file(&files[k], &mut others);
+            give(look, || of(&r, &others), r.number)
+        },
+    );
     t.line(
         &name("holder_file"),
         |k, look| {
-            let r = ours::holder_file(&files[k], &mut out, &mut count);
+            let r = ours::holder_file(&files[k], &mut out, &mut count, &mut byte);
             give(look, || digest(r, &[&[count as u16][..], &wide(&out[..count])].concat()), r)
         },
         |k, look| {

@@ -60,13 +60,13 @@ static uint16_t open_column(uint32_t set, const uint16_t *by_holder, uint16_t *s
     return mavdrusek_open(SETUP, matrix, N * D, set, handed, count, secrets, L, position);
 }
 
-/* A holder's file: the setup, its part, the values it received and everyone's verdict. */
+/* A holder's file: the setup, its part, the values it received and everyone's verdict; read back, printed, and refused where it is damaged. */
 static void print_file(uint16_t holder, const uint16_t *verdicts)
 {
     enum { SU = 10 + 2 * N * D, DL = 6 + 4 * D, PV = 10, VD = 8 };
     uint8_t file[SU + DL + N * PV + N * VD], out[256], *at = file;
-    uint16_t values[N];
-    size_t count;
+    uint16_t values[N], contents[18];
+    size_t count, byte = 0;
     exchange(gs, holder, values);
     expect(mavdrusek_write_setup(SETUP, matrix, N * D, at, SU) == 0, "SU");
     at += SU;
@@ -76,11 +76,20 @@ static void print_file(uint16_t holder, const uint16_t *verdicts)
         expect(mavdrusek_write_pair_value(SETUP, DEALING, j, holder, values[j], at, PV) == 0, "PV");
     for (uint16_t j = 0; j < N; j++, at += VD)
         expect(mavdrusek_write_verdict(SETUP, DEALING, j, verdicts[j], at, VD) == 0, "VD");
-    expect(mavdrusek_holder_file(file, sizeof file, out, sizeof out, &count) == 0, "the holder's file");
-    expect(strncmp((char *)out, "setup 257 4 3 16\n", 17) == 0, "the file's text");
+    expect(mavdrusek_read_file(file, sizeof file, contents, 18, &byte) == 0, "the holder's file");
+    expect(contents[0] == P && contents[4] == DEALING && contents[5] == holder && contents[6] == 1 && contents[8] == 1, "accept and kept");
+    expect(memcmp(contents + 10, shares[holder], sizeof shares[holder]) == 0, "the shares kept");
+    expect(mavdrusek_holder_file(file, sizeof file, out, sizeof out, &count, &byte) == 0, "the file's text");
+    expect(strncmp((char *)out, "setup 257 4 3 16\n", 17) == 0, "the text's first line");
     printf("holder %d's file prints\n", holder);
     for (size_t k = 0; k < count; k++)
         printf("%s%c", k == 0 || out[k - 1] == '\n' ? "    " : "", out[k]);
+    /* A value of p in its first PV, the record behind SU and DL. */
+    file[SU + DL + 8] = P % 256;
+    file[SU + DL + 9] = P / 256;
+    uint16_t refusal = mavdrusek_read_file(file, sizeof file, contents, 18, &byte);
+    expect(refusal == 4 && byte == SU + DL, "a damaged file is refused");
+    printf("the same with a value of 257: refused %d at %zu\n", refusal, byte);
 }
 
 int main(void)
@@ -90,7 +99,7 @@ int main(void)
     uint16_t verdicts[N], named[N], kept, first, position = 0, yes, kind, fair, checker, sender;
     uint16_t column[L], combined[N], by_holder[N], row[32];
 
-    /* The setup that all agree on: any 7 holders determine the key, any 3 learn nothing. */
+    /* The setup that all agree on, a points matrix: any 7 holders determine the key, any 3 learn nothing. */
     expect(mavdrusek_points(SETUP, matrix, N * D) == 0, "the points matrix");
     printf("points matrix: %d rows of %d\n", N, D);
 
@@ -136,10 +145,11 @@ int main(void)
     }
     printf("\"\n");
 
-    /* Six of them cannot, three learn nothing, and a changed share among eight is noticed. */
+    /* Six of them cannot, three learn nothing (a sweeping vector for every position), and a changed share among eight is noticed. */
     expect(open_column(seven & ~1u, by_holder, column, &position) == 6 && position == 0, "six cannot open");
     expect(mavdrusek_private(SETUP, matrix, N * D, 7, &yes) == 0 && yes == 1, "three are private");
-    expect(mavdrusek_judge_set(SETUP, matrix, N * D, 7, 0, row, 32, &kind) == 0 && kind == 2, "three learn nothing");
+    for (uint16_t k = 0; k < L; k++)
+        expect(mavdrusek_judge_set(SETUP, matrix, N * D, 7, k, row, 32, &kind) == 0 && kind == 2, "three have a sweeping vector for every position");
     by_holder[5] = (by_holder[5] + 1) % P;
     expect(open_column(0xff, by_holder, column, &position) == 7, "a changed share is refused");
     printf("six cannot open, three learn nothing, a changed share among eight is refused\n");

@@ -7,22 +7,28 @@
  *   matrix  n * d elements, by rows; row i is holder i's
  * A field element is a number below p. Holders, columns and positions count from 0. A set of holders has bit i for holder i.
  *
- * Every function returns 0, or the number of the one refusal; then every lent buffer and place keeps its contents (but refusal 6 of
- * mavdrusek_open gives its position). The lowest number that applies is given:
+ * Every function returns 0, or the number of the one refusal. After a refusal every lent buffer and every place keeps its contents, but for one place:
+ * refusal 6 of mavdrusek_open gives its position, and a refusal of a holder's file the byte where the faulty record starts.
+ * The lowest number that applies is given:
  *   1  p is none of the five
  *   2  l, e or n beyond its limits
  *   3  a length is not the one needed, over 64 terms, or a record is cut short
  *   4  a field element is p or more
- *   5  a holder, column or position out of range, an SH with dealing 0 and a column other than 0, or a set bit at or above n
+ *   5  a holder, column or position out of range, an SH with dealing 0 and a column other than 0, or a set bit at or above n;
+ *      in a file also a PV to another holder than the one of its DL
  *   6  the opening set does not determine the secrets
  *   7  it does, but no vector gives all the shares
- *   8  another mark than the record's
- *   9  dealing number 0 outside SH
+ *   8  another mark than the record's; in a file a mark that has no place there
+ *   9  dealing number 0 outside SH; in a file also one that is not the DL's
+ *  10  in a file: a second SU or DL, or a second PV or VD from one holder
+ *  11  a file ends with a record missing
  *  12  a verdict is neither 0 nor 1
+ *  13  in a file: the holder's own VD is not what its own judgement gives
  *  14  a combination with both lists empty
  *  15  points matrix with d + n above p
  * A reader tests the setup and the buffers that it is lent, then the mark, then the length, then the rest. (mavdrusek_read_setup_matrix knows the length
- * needed only from the record, and tests its buffer after the record's length.)
+ * needed only from the record, and tests its buffer after the record's length.) In a file the first faulty record decides, and in it the mark, then the
+ * length, then the lowest number; 11 and 13 come last. docs/RECORDS.md has the layout of every record.
  *
  * A pointer must be valid for the length beside it even where that is 0 (any non-null, aligned pointer will do then), and nothing that a call
  * writes may overlap anything else that it is lent. A reader looks at one record at the start of `part`; bytes behind it are not looked at. */
@@ -36,7 +42,7 @@
 extern "C" {
 #endif
 
-/* Whether there is a field of p elements. Refusal 1. */
+/* Whether p is one of the five primes that this library has: 0, or refusal 1 for every other number, prime powers and other primes too. */
 uint16_t mavdrusek_field(uint16_t p);
 
 /* ---- Dealing */
@@ -45,7 +51,7 @@ uint16_t mavdrusek_field(uint16_t p);
 uint16_t mavdrusek_points(uint16_t p, uint16_t l, uint16_t e, uint16_t n, uint16_t *matrix, size_t matrix_len);
 
 /* Holder `holder`'s part of a dealing: g and h, d entries each. `secrets` has l * l elements, position k of secret vector b at b * l + k; `random`
- * has d * d - l * l elements, drawn evenly by the caller. Refusals 1 to 5. */
+ * has d * d - l * l elements, the other entries of the paper's F row by row, drawn evenly by the caller. Refusals 1 to 5. */
 uint16_t mavdrusek_deal(uint16_t p, uint16_t l, uint16_t e, uint16_t n, const uint16_t *matrix, size_t matrix_len, const uint16_t *secrets,
                         size_t secrets_len, const uint16_t *random, size_t random_len, uint16_t holder, uint16_t *g, size_t g_len, uint16_t *h,
                         size_t h_len);
@@ -61,18 +67,20 @@ uint16_t mavdrusek_deal_all(uint16_t p, uint16_t l, uint16_t e, uint16_t n, cons
 uint16_t mavdrusek_pair_value(uint16_t p, uint16_t l, uint16_t e, uint16_t n, const uint16_t *matrix, size_t matrix_len, const uint16_t *g,
                               size_t g_len, uint16_t to, uint16_t *value);
 
-/* The judgement of the holder with column part h (d entries) on the n values that it received, by sender: *verdict is 1 for accept; 0 for reject, and
- * then *named is the lowest sender whose value differs. Refusals 1 to 4. */
+/* The judgement of the holder with column part h (d entries) on the n values that it received, by sender: *verdict is 1 for accept, and *named keeps
+ * its contents; or 0 for reject, and *named is the lowest sender whose value differs. Refusals 1 to 4. */
 uint16_t mavdrusek_judge(uint16_t p, uint16_t l, uint16_t e, uint16_t n, const uint16_t *matrix, size_t matrix_len, const uint16_t *h, size_t h_len,
                          const uint16_t *values, size_t values_len, uint16_t *verdict, uint16_t *named);
 
-/* The outcome for the holder with row part g (d entries) on the n verdicts that it received: *kept is 1, and the l shares, one for each column, are
- * written; or *kept is 0, *named is the lowest holder that said reject, and the shares stay as they were. Refusals 1 to 4, 12. */
+/* The outcome for the holder with row part g (d entries) on the n verdicts that it received: *kept is 1, the l shares, one for each column, are
+ * written, and *named keeps its contents; or *kept is 0, *named is the lowest holder that said reject, and `shares` keeps its contents. Refusals 1 to
+ * 4, 12. */
 uint16_t mavdrusek_outcome(uint16_t p, uint16_t l, uint16_t e, uint16_t n, const uint16_t *g, size_t g_len, const uint16_t *verdicts,
                            size_t verdicts_len, uint16_t *shares, size_t shares_len, uint16_t *kept, uint16_t *named);
 
-/* The dealer's rehearsal on all parts, laid out as mavdrusek_deal_all writes them: *fair is 1; or 0, and then *checker and *sender are the first pair
- * that disagrees, by checker and then by sender, where the checker checks the sender's value. Refusals 1 to 4. */
+/* The dealer's rehearsal on all parts, laid out as mavdrusek_deal_all writes them: *fair is 1, and *checker and *sender keep their contents; or *fair
+ * is 0, and *checker and *sender are the first pair that disagrees, by checker and then by sender, where the checker checks the sender's value. Refusals
+ * 1 to 4. */
 uint16_t mavdrusek_rehearse(uint16_t p, uint16_t l, uint16_t e, uint16_t n, const uint16_t *matrix, size_t matrix_len, const uint16_t *gs,
                             size_t gs_len, const uint16_t *hs, size_t hs_len, uint16_t *fair, uint16_t *checker, uint16_t *sender);
 
@@ -84,16 +92,21 @@ uint16_t mavdrusek_combine(uint16_t p, const uint16_t *constants, size_t constan
 /* Whether the set determines the secrets: *yes is 1 or 0. Refusals 1 to 5. */
 uint16_t mavdrusek_determines(uint16_t p, uint16_t l, uint16_t e, uint16_t n, const uint16_t *matrix, size_t matrix_len, uint32_t set, uint16_t *yes);
 
-/* Whether the set is called private, that is, has at most e members: *yes is 1 or 0. Refusals 1 to 5. */
+/* Whether the set is called private, that is, has at most e members: *yes is 1 or 0. It counts members and does not look at their rows: on a matrix with
+ * the row (1, 0) a set called private opens the secret. What a set can see of a position says mavdrusek_judge_set. Refusals 1 to 5. */
 uint16_t mavdrusek_private(uint16_t p, uint16_t l, uint16_t e, uint16_t n, const uint16_t *matrix, size_t matrix_len, uint32_t set, uint16_t *yes);
 
-/* The judgement of a set at a position below l: *kind is 1, and `out` (32 entries) a reconstruction row, its entries by rising holder; or 2, and a
- * sweeping vector of d entries; or 0, neither. Zeros follow. Refusals 1 to 5. */
+/* The judgement of a set at a position below l: *kind is 1, and `out` (32 entries) a reconstruction row, its entries by rising holder: the
+ * set determines the position; or 2, and a sweeping vector of d entries: the set's shares fit every value at that position; or 0, neither. Zeros follow,
+ * so that all 32 entries are written. Refusals 1 to 5. */
 uint16_t mavdrusek_judge_set(uint16_t p, uint16_t l, uint16_t e, uint16_t n, const uint16_t *matrix, size_t matrix_len, uint32_t set,
                              uint16_t position, uint16_t *out, size_t out_len, uint16_t *kind);
 
-/* Opens the set's shares of one column or combination, by rising holder, into l secrets. Refusals 1 to 7; refusal 6 writes the lowest position
- * with no row into *position, which nothing else writes. */
+/* Opens the set's shares of one column or combination, by rising holder, into l secrets. `shares` has as many entries as there are ones among all 32
+ * bits of the set, those at or above n included: such a set gets 5 with that many shares, and 3 with any other number. Refusals 1 to 7; refusal 6 writes
+ * the lowest position with no row into *position although the call is refused; nothing else writes *position.
+ * Where the honest holders among the openers determine the secrets by themselves, the others can only cause a refusal; where they do not, a false share
+ * can open to false secrets. */
 uint16_t mavdrusek_open(uint16_t p, uint16_t l, uint16_t e, uint16_t n, const uint16_t *matrix, size_t matrix_len, uint32_t set,
                         const uint16_t *shares, size_t shares_len, uint16_t *secrets, size_t secrets_len, uint16_t *position);
 
@@ -121,7 +134,8 @@ uint16_t mavdrusek_write_share(uint16_t p, uint16_t l, uint16_t e, uint16_t n, u
 
 /* ---- Reading records */
 
-/* The four numbers of an SU whose matrix is not cut short. Refusals 1, 2, 3, 8. */
+/* The four numbers of an SU whose matrix is whole and has elements below p. Tested in this order: the mark, 8; ten bytes, 3; the numbers, 1 and 2; the
+ * whole length, 3; the elements, 4. */
 uint16_t mavdrusek_read_setup_head(const uint8_t *part, size_t part_len, uint16_t *p, uint16_t *l, uint16_t *e, uint16_t *n);
 
 /* The matrix of an SU into `matrix`, n * d entries. Refusals 1 to 4, 8. */
@@ -145,9 +159,20 @@ uint16_t mavdrusek_read_share(uint16_t p, uint16_t l, uint16_t e, uint16_t n, co
 
 /* ---- The holder's file */
 
-/* What the holder program prints for a holder's file of at most 4,096 bytes, into `out`, 256 bytes, of which *count are written. A faulty file is no
- * refusal of the call: its text says so. Refusal 3. */
-uint16_t mavdrusek_holder_file(const uint8_t *file, size_t file_len, uint8_t *out, size_t out_len, size_t *count);
+/* Reads a holder's file of at most 4,096 bytes. `contents` has 18 entries:
+ *   0 to 3   p, l, e, n
+ *   4, 5     the dealing number, the holder
+ *   6, 7     the holder's judgement: 1 accept, and 0; or 0 reject, and the sender that it names
+ *   8, 9     the outcome: 1 kept, and 0; or 0 aborted, and the holder that it names
+ *   10 ..    the l shares where kept; zeros up to 18
+ * A file that breaks the rules is refused by its number, 1 to 5 or 8 to 13, and *byte is the byte where the faulty record starts, or the file's length for
+ * 11 and 13; `contents` keeps its contents. Where the file is read, *byte keeps its contents. A file of more than 4,096 bytes and a `contents` of another
+ * length are refused by 3 before the file is looked at, and then *byte keeps its contents too. */
+uint16_t mavdrusek_read_file(const uint8_t *file, size_t file_len, uint16_t *contents, size_t contents_len, size_t *byte);
+
+/* The text of such a file, as the holder program prints it, into `out`, 256 bytes; *count is how many they are, and the bytes behind them keep their
+ * contents. Refused as by mavdrusek_read_file, an out_len other than 256 by 3 with no byte; then `out` and *count keep their contents. */
+uint16_t mavdrusek_holder_file(const uint8_t *file, size_t file_len, uint8_t *out, size_t out_len, size_t *count, size_t *byte);
 
 #ifdef __cplusplus
 }

@@ -30,7 +30,7 @@ const fn call(name: &'static str, refusals: &'static [u16], places: usize, eleme
     Call { name, refusals, places, elements, written, bytes }
 }
 
-pub const CALLS: [Call; 25] = [
+pub const CALLS: [Call; 26] = [
     call("points", &[1, 2, 3, 15], 0, &[], &[0], Bytes::None),
     call("deal", &[1, 2, 3, 4, 5], 0, &[0, 1, 2], &[3, 4], Bytes::None),
     call("deal to all", &[1, 2, 3, 4], 0, &[0, 1, 2], &[3, 4], Bytes::None),
@@ -43,22 +43,25 @@ pub const CALLS: [Call; 25] = [
     call("determines", &[1, 2, 3, 4, 5], 1, &[0], &[], Bytes::None),
     call("private", &[1, 2, 3, 4, 5], 1, &[0], &[], Bytes::None),
     call("open", &[1, 2, 3, 4, 5, 6, 7], 1, &[0, 1], &[2], Bytes::None),
-    call("holder's file", &[1, 2, 3, 4, 5, 8, 9, 10, 11, 12, 13], 0, &[], &[], Bytes::Read),
+    call("holder's file, text", &[1, 2, 3, 4, 5, 8, 9, 10, 11, 12, 13], 2, &[], &[], Bytes::Read),
     call("write SU", &[1, 2, 3, 4], 0, &[0], &[], Bytes::Written),
     call("write DL", &[1, 2, 3, 4, 5, 9], 0, &[0, 1], &[], Bytes::Written),
     call("write PV", &[1, 2, 3, 4, 5, 9], 0, &[], &[], Bytes::Written),
     call("write VD", &[1, 2, 3, 5, 9, 12], 0, &[], &[], Bytes::Written),
     call("write SH", &[1, 2, 3, 4, 5], 0, &[], &[], Bytes::Written),
-    call("read SU, numbers", &[1, 2, 3, 8], 4, &[], &[], Bytes::Read),
+    call("read SU, numbers", &[1, 2, 3, 4, 8], 4, &[], &[], Bytes::Read),
     call("read SU, matrix", &[1, 2, 3, 4, 8], 0, &[], &[0], Bytes::Read),
     call("read DL", &[1, 2, 3, 4, 5, 8, 9], 2, &[], &[0, 1], Bytes::Read),
     call("read PV", &[1, 2, 3, 4, 5, 8, 9], 4, &[], &[], Bytes::Read),
     call("read VD", &[1, 2, 3, 5, 8, 9, 12], 3, &[], &[], Bytes::Read),
     call("read SH", &[1, 2, 3, 4, 5, 8], 4, &[], &[], Bytes::Read),
+    call("holder's file, contents", &[1, 2, 3, 4, 5, 8, 9, 10, 11, 12, 13], 1, &[], &[0], Bytes::Read),
     call("field", &[1], 0, &[], &[], Bytes::None),
 ];
 
 pub const FILE: u16 = 12;
+pub const READ_FILE: u16 = 24;
+pub const FIELD: u16 = 25;
 
 /// What every place holds before a call.
 pub const UNTOUCHED: u16 = 7777;
@@ -80,6 +83,13 @@ pub struct After {
     pub places: Vec<u16>,
     pub words: Vec<Vec<u16>>,
     pub bytes: Vec<u8>,
+}
+
+/// The places for the count and the byte after the call that prints a holder's file: the one is written where it answers, the other where it refuses
+/// the file.
+pub fn count_and_byte(answer: &Answer) -> (u16, u16) {
+    let value = answer.values.first().copied().unwrap_or(UNTOUCHED);
+    if answer.number == 0 { (value, UNTOUCHED) } else { (UNTOUCHED, value) }
 }
 
 impl Case {
@@ -135,20 +145,26 @@ impl Case {
             (21, []) => read_pair_value(s, &bytes),
             (22, []) => read_verdict(s, &bytes),
             (23, []) => read_share(s, &bytes),
-            (24, []) => field(s.p),
+            (READ_FILE, [contents]) => read_file(&bytes, contents),
+            (FIELD, []) => field(s.p),
             _ => panic!("no such call: {self:?}"),
         };
         let places = (0..self.of().places).map(|k| answer.values.get(k).copied().unwrap_or(UNTOUCHED)).collect();
         After { number: answer.number, places, words, bytes }
     }
 
-    /// One line: the number, the places, then every slice that may be written, a space after each number. Of a holder's file what it prints, and an empty line.
+    /// One line: the number, the places, then every slice that may be written, a space after each number. Of a holder's file the number, the count and
+    /// the byte, then its text.
     ///
     /// Which row or vector the judgement of a set writes is left open. Its buffer is stored all the same: the proved library and the reference both
     /// take the solution with zeros at the free unknowns, where the pivots are leftmost, and there is only one.
     pub fn line(&self) -> String {
         if self.call == FILE {
-            return holder(&self.bytes) + "\n";
+            let mut out = [0; 256];
+            let answer = holder_file(&self.bytes, &mut out);
+            let (count, byte) = count_and_byte(&answer);
+            let text = if answer.number == 0 { &out[..count as usize] } else { &[] };
+            return format!("{} {count} {byte} {}\n", answer.number, String::from_utf8_lossy(text));
         }
         let after = self.run();
         let mut all = vec![after.number];

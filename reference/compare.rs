@@ -7,7 +7,7 @@ mod cases;
 mod draw;
 use cases::*;
 use draw::*;
-use reference::{holder_file, is_of_kind};
+use reference::{holder_file, is_of_kind, read_file};
 
 /// The functions of include/mavdrusek.h.
 #[path = "../rust/src/raw.rs"]
@@ -52,7 +52,7 @@ fn ours(case: &Case) -> After {
             (21, []) => mavdrusek_read_pair_value(p, l, e, n, part, part_len, a, b, c, d),
             (22, []) => mavdrusek_read_verdict(p, l, e, n, part, part_len, a, b, c),
             (23, []) => mavdrusek_read_share(p, l, e, n, part, part_len, a, b, c, d),
-            (24, []) => mavdrusek_field(p),
+            (FIELD, []) => mavdrusek_field(p),
             _ => panic!("no such call: {case:?}"),
         }
     };
@@ -75,47 +75,63 @@ fn agree(c: &Case) -> bool {
     left == right
 }
 
-/// Whether both print the same for a holder's file.
-fn agree_on_file(file: &[u8], lent: &[u8]) -> bool {
-    let (mut left, mut right) = (lent.to_vec(), lent.to_vec());
-    let mut count = UNTOUCHED as usize;
-    let number = unsafe { mavdrusek_holder_file(file.as_ptr(), file.len(), left.as_mut_ptr(), left.len(), &mut count) };
+/// Whether both make the same of a holder's file: its text, and its contents.
+fn agree_on_file(file: &[u8], text: &[u8], contents: &[u16]) -> bool {
+    let untouched = UNTOUCHED as usize;
+
+    let (mut left, mut right) = (text.to_vec(), text.to_vec());
+    let (mut count, mut byte) = (untouched, untouched);
+    let number = unsafe { mavdrusek_holder_file(file.as_ptr(), file.len(), left.as_mut_ptr(), left.len(), &mut count, &mut byte) };
     let answer = holder_file(file, &mut right);
-    let expected = answer.values.first().map_or(UNTOUCHED as usize, |&k| k as usize);
-    let same = number == answer.number && count == expected && left == right;
-    if !same {
-        println!("differ: file {file:?}, buffer {lent:?}\n  ours {number}, {count} bytes, {left:?}\n  reference {answer:?}, {right:?}");
+    let places = count_and_byte(&answer);
+    let same_text = number == answer.number && (count, byte) == (places.0 as usize, places.1 as usize) && left == right;
+    if !same_text {
+        println!("differ: text of {file:?} in {text:?}\n  ours {number}, count {count}, byte {byte}, {left:?}\n  reference {answer:?}, {right:?}");
     }
-    same
+
+    let (mut left, mut right) = (contents.to_vec(), contents.to_vec());
+    let mut byte = untouched;
+    let number = unsafe { mavdrusek_read_file(file.as_ptr(), file.len(), left.as_mut_ptr(), left.len(), &mut byte) };
+    let answer = read_file(file, &mut right);
+    let place = answer.values.first().map_or(untouched, |&k| k as usize);
+    let same_contents = number == answer.number && byte == place && left == right;
+    if !same_contents {
+        println!("differ: contents of {file:?} in {contents:?}\n  ours {number}, byte {byte}, {left:?}\n  reference {answer:?}, {right:?}");
+    }
+    same_text && same_contents
 }
 
-/// A file and the buffer for its text, now and then one of a length that is refused.
-fn draw_file(r: &mut Random) -> (Vec<u8>, Vec<u8>) {
+/// A file, the buffer for its text and the one for its contents, now and then one of a length that is refused.
+fn draw_file(r: &mut Random) -> (Vec<u8>, Vec<u8>, Vec<u16>) {
     let mut file = draw(r, FILE).bytes;
     if r.chance(200) {
         let size = r.one(&[4095, 4096, 4097, 5000]);
         file.resize(size, 0);
     }
-    let size = if r.chance(50) { r.one(&[0, 255, 257]) } else { 256 };
-    (file, r.noise_bytes(size))
+    let bytes = if r.chance(50) { r.one(&[0, 255, 257]) } else { 256 };
+    let words = if r.chance(50) { r.one(&[0, 17, 19]) } else { 18 };
+    (file, r.noise_bytes(bytes), r.noise(words))
 }
 
 fn main() {
-    let args: Vec<u64> = std::env::args().skip(1).map(|x| x.parse().expect("compare CALLS [SEED]")).collect();
-    let calls = args[0];
+    let numbers: Result<Vec<u64>, _> = std::env::args().skip(1).map(|x| x.parse()).collect();
     let clock = || std::time::SystemTime::now().duration_since(std::time::UNIX_EPOCH).unwrap().as_nanos() as u64;
-    let seed = args.get(1).copied().unwrap_or_else(clock);
+    let (calls, seed) = match numbers.as_deref() {
+        Ok(&[calls]) => (calls, clock()),
+        Ok(&[calls, seed]) => (calls, seed),
+        _ => panic!("compare CALLS [SEED]"),
+    };
     println!("seed {seed}, {calls} calls, {} files", calls.div_ceil(5));
     let mut r = Random(seed);
     let mut differ = 0;
-    let others: Vec<u16> = (0..CALLS.len() as u16).filter(|&call| call != FILE).collect();
+    let others: Vec<u16> = (0..CALLS.len() as u16).filter(|&call| call != FILE && call != READ_FILE).collect();
     for k in 0..calls {
         let c = draw(&mut r, others[k as usize % others.len()]);
         differ += !agree(&c) as u64;
     }
     for _ in 0..calls.div_ceil(5) {
-        let (file, lent) = draw_file(&mut r);
-        differ += !agree_on_file(&file, &lent) as u64;
+        let (file, text, contents) = draw_file(&mut r);
+        differ += !agree_on_file(&file, &text, &contents) as u64;
     }
     println!("{} compared, {differ} differ", calls + calls.div_ceil(5));
     std::process::exit((differ > 0) as i32);

@@ -410,7 +410,7 @@ fn damage(r: &mut Random, c: &mut Case) {
                 let k = r.below(32);
                 c.numbers[4 + k / 16] ^= 1 << (k % 16);
             }
-            24 => c.numbers[0] = r.next() as u16,
+            FIELD => c.numbers[0] = r.next() as u16,
             _ => {}
         },
     }

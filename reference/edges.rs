@@ -45,7 +45,7 @@ fn needed(call: u16, s: Params) -> (Vec<usize>, usize) {
         14 | 20 => (vec![d, d], 6 + 4 * d),
         16 | 22 => (vec![], 8),
         18 => (vec![], 10 + 2 * all),
-        24 => (vec![], 0),
+        FIELD => (vec![], 0),
         _ => (vec![], 10),
     }
 }
@@ -85,7 +85,7 @@ fn sizes(r: &mut Random, cases: &mut Vec<Case>) {
         cases.push(blank(call, params(257, 1, 1, 65535)));
     }
     let near = (0..24).chain(247..262).chain(65516..=65535).chain([127, 128, 509, 514, 1792, 32768, 64257]);
-    cases.extend(near.map(|p| blank(24, params(p, 0, 0, 0))));
+    cases.extend(near.map(|p| blank(FIELD, params(p, 0, 0, 0))));
 }
 
 /// Every slice of every call shorter and longer by one, and empty.
@@ -406,7 +406,7 @@ fn fault(c: &mut Case, number: u16) {
         (13..=17, 3) => c.bytes.push(0),
         (_, 3) => c.words.last_mut().unwrap().push(0),
         (15 | 17, 4) => c.numbers[7] = s.p,
-        (19, 4) => put(&mut c.bytes, 5, s.p),
+        (18 | 19, 4) => put(&mut c.bytes, 5, s.p),
         (20, 4) => put(&mut c.bytes, 3, s.p),
         (21 | 23, 4) => put(&mut c.bytes, 4, s.p),
         (7, 4) => c.words.iter_mut().take(1).for_each(|x| x.push(65535)),
@@ -530,6 +530,22 @@ fn files(r: &mut Random, cases: &mut Vec<Case>) {
         largest.push(0);
     }
     push(largest);
+}
+
+/// Each of these files read into 18 entries, none of them 0 before; now and then into another number of entries, which is refused.
+pub fn contents(r: &mut Random, files: &[Vec<u8>]) -> Vec<Case> {
+    let mut cases = vec![];
+    for (k, file) in files.iter().enumerate() {
+        let mut push = |size: usize| {
+            let lent = (0..size).map(|_| 1 + r.below(65535) as u16).collect();
+            cases.push(Case { call: READ_FILE, numbers: [0; 8], words: vec![lent], bytes: file.clone() });
+        };
+        push(18);
+        if k % 12 == 0 {
+            push([17, 19, 0][k / 12 % 3]);
+        }
+    }
+    cases
 }
 
 pub fn edges(r: &mut Random) -> Vec<Case> {

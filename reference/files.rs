@@ -1,4 +1,5 @@
-//! The stored files of the program `files`, each behind its length, and what the reference prints for them.
+//! The stored files of the program `files`, each behind its length, those that the gate runs through the program `holder`, and what the reference prints
+//! for them.
 
 use crate::cases::FILE;
 use crate::draw::*;
@@ -90,4 +91,33 @@ pub fn stored() -> (Vec<u8>, String) {
         output += &holder(file);
     }
     (input, output)
+}
+
+/// A file drawn on a points matrix whose text has these words.
+fn with_words(r: &mut Random, s: Params, words: &str) -> Vec<u8> {
+    loop {
+        let file = Draw::with(r, s, POINTS).case(FILE).bytes;
+        if holder(&file).contains(words) {
+            return file;
+        }
+    }
+}
+
+/// Files for the program `holder`, by name: what is read from standard input and what is printed. The program reads 4,096 bytes and no more.
+pub fn for_the_program() -> Vec<(&'static str, Vec<u8>, String)> {
+    let mut r = Random(20140903);
+    let largest = with_words(&mut r, Params { p: 65521, l: 8, e: 8, n: 32 }, "outcome kept");
+    let key = Params { p: 257, l: 4, e: 3, n: 16 };
+    let mut again = example();
+    again[25] = 0; // the second PV from holder 0 once more
+    let long = [&largest[..], &vec![0; 5000 - largest.len()]].concat();
+    let files = [
+        ("empty", vec![]),
+        ("largest", largest),
+        ("long", long),
+        ("pieces", with_words(&mut r, key, "outcome kept")),
+        ("refused", bytes(&again)),
+        ("rejected", with_words(&mut r, key, "verdict reject")),
+    ];
+    files.map(|(name, file)| (name, file.clone(), holder(&file[..file.len().min(4096)]))).into()
 }

@@ -1,5 +1,5 @@
 //! Writes stored inputs and what the reference answers: `generate files INPUT OUTPUT` for the program `files`, `generate cases INPUT OUTPUT` for the
-//! program `cases`.
+//! program `cases`, `generate holder FOLDER` for the program `holder`, NAME.in and NAME.out for each of its files.
 
 mod cases;
 mod draw;
@@ -9,9 +9,9 @@ use cases::*;
 use draw::*;
 use std::collections::BTreeMap;
 
-/// The number returned, from a case's line; a file's from what it prints.
+/// The number returned, from a case's line.
 fn number(line: &str) -> u16 {
-    line.trim_start_matches("refused ").split(' ').next().and_then(|x| x.parse().ok()).unwrap_or(0)
+    line.split(' ').next().unwrap().parse().unwrap()
 }
 
 /// The cases at the limits and drawn cases of every call, and the answers.
@@ -19,7 +19,7 @@ fn stored() -> (Vec<u8>, String) {
     let mut r = Random(20140901);
     let mut all = edges::edges(&mut r);
     for round in 0..40 {
-        for call in 0..CALLS.len() as u16 {
+        for call in (0..CALLS.len() as u16).filter(|&call| call != READ_FILE) {
             // the largest files and matrices now and then only, so that what is stored stays small
             let c = loop {
                 let c = draw(&mut r, call);
@@ -30,6 +30,8 @@ fn stored() -> (Vec<u8>, String) {
             all.push(c);
         }
     }
+    let files: Vec<Vec<u8>> = all.iter().filter(|c| c.call == FILE).map(|c| c.bytes.clone()).collect();
+    all.extend(edges::contents(&mut r, &files));
     let (mut input, mut output) = (vec![], String::new());
     let mut counts = vec![BTreeMap::new(); CALLS.len()];
     for c in &all {
@@ -49,13 +51,23 @@ fn stored() -> (Vec<u8>, String) {
     (input, output)
 }
 
+/// Writes the files of the program `holder` into a folder.
+fn holder(folder: &str) {
+    for (name, file, text) in files::for_the_program() {
+        std::fs::write(format!("{folder}/{name}.in"), file).unwrap();
+        std::fs::write(format!("{folder}/{name}.out"), text).unwrap();
+    }
+}
+
 fn main() {
-    let args: Vec<String> = std::env::args().collect();
-    let (input, output) = match args[1].as_str() {
-        "files" => files::stored(),
-        "cases" => stored(),
-        other => panic!("neither files nor cases: {other}"),
+    let args: Vec<String> = std::env::args().skip(1).collect();
+    let args: Vec<&str> = args.iter().map(|x| x.as_str()).collect();
+    let ((input, output), to) = match args[..] {
+        ["holder", folder] => return holder(folder),
+        ["files", ref to @ ..] => (files::stored(), to),
+        ["cases", ref to @ ..] => (stored(), to),
+        _ => panic!("generate holder FOLDER, generate files INPUT OUTPUT or generate cases INPUT OUTPUT"),
     };
-    std::fs::write(&args[2], input).unwrap();
-    std::fs::write(&args[3], output).unwrap();
+    std::fs::write(to[0], input).unwrap();
+    std::fs::write(to[1], output).unwrap();
 }

@@ -109,7 +109,7 @@ fn row<'a>(s: &Params, m: &'a [u16], i: usize) -> &'a [u16] {
 
 // ---- dealing and judging
 
-/// Whether there is a field of p elements.
+/// Whether p is one of the five.
 pub fn field(p: u16) -> Answer {
     if PRIMES.contains(&p) { given(&[]) } else { refused(1) }
 }
@@ -563,6 +563,12 @@ fn setup_fields(part: &[u8]) -> Result<(Params, Vec<u16>), u16> {
     Ok((s, words(part, 5 + s.entries())?.split_off(5)))
 }
 
+/// The same, entries and all.
+fn setup_record(part: &[u8]) -> Result<(Params, Vec<u16>), u16> {
+    let (s, m) = setup_fields(part)?;
+    if m.iter().any(|&x| x >= s.p) { Err(4) } else { Ok((s, m)) }
+}
+
 /// Dealing number, holder, g and h of a DL whose mark was seen.
 fn dealing_fields(s: &Params, part: &[u8]) -> Result<(u16, u16, Vec<u16>, Vec<u16>), u16> {
     let mut g = words(part, 3 + 2 * s.d())?;
@@ -579,7 +585,7 @@ fn answer(found: Result<Vec<u16>, u16>) -> Answer {
 
 /// The four numbers of the SU that a part starts with.
 pub fn read_setup_head(part: &[u8]) -> Answer {
-    answer(expect(part, SU).and_then(|()| setup_fields(part)).map(|(s, _)| vec![s.p, s.l, s.e, s.n]))
+    answer(expect(part, SU).and_then(|()| setup_record(part)).map(|(s, _)| vec![s.p, s.l, s.e, s.n]))
 }
 
 /// The matrix of the SU that a part starts with; the lent length is tested after the numbers and before the entries.
@@ -665,11 +671,10 @@ fn mark_in_place(part: &[u8], place: &[u16], seen: &[u16]) -> Result<u16, u16> {
     }
 }
 
-/// The SU of a file, entries and all.
+/// The SU of a file.
 fn first_record(part: &[u8]) -> Result<(Params, Vec<u16>), u16> {
     mark_in_place(part, &[SU], &[])?;
-    let (s, m) = setup_fields(part)?;
-    if m.iter().any(|&x| x >= s.p) { Err(4) } else { Ok((s, m)) }
+    setup_record(part)
 }
 
 /// The DL of a file: a holder that has received nothing yet.
@@ -707,7 +712,8 @@ fn later_record(x: &mut Holder, part: &[u8]) -> Result<usize, u16> {
     }
 }
 
-fn read_file(file: &[u8]) -> Result<Holder, Fault> {
+/// All records of a file.
+fn read_records(file: &[u8]) -> Result<Holder, Fault> {
     let missing = (11, file.len());
     if file.is_empty() {
         return Err(missing);
@@ -725,44 +731,90 @@ fn read_file(file: &[u8]) -> Result<Holder, Fault> {
     if x.values.iter().chain(&x.verdicts).all(|v| v.is_some()) { Ok(x) } else { Err(missing) }
 }
 
-/// What the holder program prints for a file of at most 4,096 bytes.
-pub fn holder(file: &[u8]) -> String {
-    let refused = |(k, at): Fault| format!("refused {k} at {at}\n");
-    let st = match read_file(file) {
-        Err(fault) => return refused(fault),
-        Ok(st) => st,
-    };
-    let values: Vec<u16> = st.values.iter().map(|v| v.unwrap()).collect();
-    let verdicts: Vec<u16> = st.verdicts.iter().map(|v| v.unwrap()).collect();
-    let judged = judgement(&st.s, &st.m, &st.h, &values);
-    if verdicts[st.holder as usize] != judged.is_none() as u16 {
-        return refused((13, file.len()));
+/// What a file that keeps the rules says.
+struct Contents {
+    s: Params,
+    dealing: u16,
+    holder: u16,
+    /// The sender that the own judgement rejects.
+    rejected: Option<u16>,
+    /// The holder that the outcome names.
+    aborted: Option<u16>,
+    shares: Vec<u16>,
+}
+
+/// Reads a file to its end, and judges.
+fn contents_of(file: &[u8]) -> Result<Contents, Fault> {
+    let x = read_records(file)?;
+    let values: Vec<u16> = x.values.iter().map(|v| v.unwrap()).collect();
+    let verdicts: Vec<u16> = x.verdicts.iter().map(|v| v.unwrap()).collect();
+    let rejected = judgement(&x.s, &x.m, &x.h, &values);
+    if verdicts[x.holder as usize] != rejected.is_none() as u16 {
+        return Err((13, file.len()));
     }
-    let aborted = verdicts.iter().position(|&v| v == 0);
-    let mut text = format!("setup {} {} {} {}\n", st.s.p, st.s.l, st.s.e, st.s.n);
-    text += &format!("dealing {} holder {}\n", st.dealing, st.holder);
-    text += &match judged {
+    let aborted = verdicts.iter().position(|&v| v == 0).map(|i| i as u16);
+    let shares = if aborted.is_none() { x.g[..x.s.l as usize].to_vec() } else { vec![] };
+    Ok(Contents { s: x.s, dealing: x.dealing, holder: x.holder, rejected, aborted, shares })
+}
+
+/// What the holder program prints of a file's contents.
+fn text(c: &Contents) -> String {
+    let mut text = format!("setup {} {} {} {}\n", c.s.p, c.s.l, c.s.e, c.s.n);
+    text += &format!("dealing {} holder {}\n", c.dealing, c.holder);
+    text += &match c.rejected {
         None => "verdict accept\n".to_string(),
         Some(j) => format!("verdict reject {j}\n"),
     };
-    match aborted {
-        Some(i) => text += &format!("outcome aborted {i}\n"),
-        None => {
-            text += "outcome kept\n";
-            for b in 0..st.s.l as usize {
-                text += &format!("share {b} {}\n", st.g[b]);
-            }
-        }
+    text += &match c.aborted {
+        None => "outcome kept\n".to_string(),
+        Some(i) => format!("outcome aborted {i}\n"),
+    };
+    for (b, share) in c.shares.iter().enumerate() {
+        text += &format!("share {b} {share}\n");
     }
     text
 }
 
-/// What the holder program prints, into a buffer of 256 bytes, and how many of them it is.
+/// What the holder program prints for a file of at most 4,096 bytes.
+pub fn holder(file: &[u8]) -> String {
+    match contents_of(file) {
+        Ok(contents) => text(&contents),
+        Err((k, at)) => format!("refused {k} at {at}\n"),
+    }
+}
+
+fn refused_at((number, byte): Fault) -> Answer {
+    Answer { number, values: vec![byte as u16] }
+}
+
+/// What a file says, into a buffer of 18 entries; a refusal of the file with its byte.
+pub fn read_file(file: &[u8], contents: &mut [u16]) -> Answer {
+    if file.len() > 4096 || contents.len() != 18 {
+        return refused(3);
+    }
+    match contents_of(file) {
+        Ok(c) => {
+            let named = |x: Option<u16>| [x.is_none() as u16, x.unwrap_or(0)];
+            let all = [&[c.s.p, c.s.l, c.s.e, c.s.n, c.dealing, c.holder], &named(c.rejected)[..], &named(c.aborted), &c.shares].concat();
+            contents.fill(0);
+            contents[..all.len()].copy_from_slice(&all);
+            given(&[])
+        }
+        Err(fault) => refused_at(fault),
+    }
+}
+
+/// The text of a file, into a buffer of 256 bytes, and how many of them it is; a refusal of the file with its byte.
 pub fn holder_file(file: &[u8], out: &mut [u8]) -> Answer {
     if file.len() > 4096 || out.len() != 256 {
         return refused(3);
     }
-    let text = holder(file);
-    out[..text.len()].copy_from_slice(text.as_bytes());
-    given(&[text.len() as u16])
+    match contents_of(file) {
+        Ok(c) => {
+            let text = text(&c);
+            out[..text.len()].copy_from_slice(text.as_bytes());
+            given(&[text.len() as u16])
+        }
+        Err(fault) => refused_at(fault),
+    }
 }

@@ -41,22 +41,22 @@ fn file(matrix: &[u16], gs: &[u16], hs: &[u16], said: &[Verdict], holder: u16) -
     let mut bytes = vec![0; SETUP.setup_bytes() + SETUP.dealing_bytes()];
     let (first, second) = bytes.split_at_mut(SETUP.setup_bytes());
     SETUP.write_setup(matrix, first)?;
-    SETUP.write_dealing(DealingRecord { dealing: 1, holder }, part(gs, holder), part(hs, holder), second)?;
+    SETUP.write_dealing(&DealingRecord { dealing: 1, holder }, part(gs, holder), part(hs, holder), second)?;
     for (sender, value) in (0..).zip(received(matrix, gs, holder)?) {
         let mut record = [0; PAIR_VALUE_BYTES];
-        SETUP.write_pair_value(PairValueRecord { dealing: 1, sender, receiver: holder, value }, &mut record)?;
+        SETUP.write_pair_value(&PairValueRecord { dealing: 1, sender, receiver: holder, value }, &mut record)?;
         bytes.extend(record);
     }
     for (holder, &verdict) in (0..).zip(said) {
         let mut record = [0; VERDICT_BYTES];
-        SETUP.write_verdict(VerdictRecord { dealing: 1, holder, verdict }, &mut record)?;
+        SETUP.write_verdict(&VerdictRecord { dealing: 1, holder, verdict }, &mut record)?;
         bytes.extend(record);
     }
     Ok(bytes)
 }
 
 pub fn main() -> Result<(), Refusal> {
-    // The setup that all agree on: any 7 holders determine the key, any 3 learn nothing.
+    // The setup that all agree on, a points matrix: any 7 holders determine the key, any 3 learn nothing.
     let mut matrix = vec![0; SETUP.entries()];
     SETUP.points(&mut matrix)?;
     println!("points matrix: {} rows of {D}", HOLDERS);
@@ -80,15 +80,21 @@ pub fn main() -> Result<(), Refusal> {
         assert_eq!(SETUP.outcome(part(&gs, i), &said, &mut shares[i as usize])?, Outcome::Kept);
     }
     println!("kept: holder 3's shares are {:?}", shares[3]);
-    let mut out = [0; REPORT_BYTES];
-    let text = holder_file(&file(&matrix, &gs, &hs, &said, 3)?, &mut out)?;
-    let [a, b, c, d] = shares[3];
-    let shares_text = format!("share 0 {a}\nshare 1 {b}\nshare 2 {c}\nshare 3 {d}\n");
-    assert_eq!(text, format!("setup 257 4 3 16\ndealing 1 holder 3\nverdict accept\noutcome kept\n{shares_text}"));
-    println!(
-        "holder 3's file prints\n{}",
-        text.trim_end().lines().map(|l| format!("    {l}\n")).collect::<String>().trim_end_matches('\n')
-    );
+
+    // Holder 3's file, read back.
+    let mut bytes = file(&matrix, &gs, &hs, &said, 3)?;
+    let found = read_file(&bytes).map_err(|refused| refused.refusal)?;
+    assert_eq!((found.setup, found.dealing, found.holder), (SETUP, 1, 3));
+    assert_eq!((found.judgement, found.outcome), (Judgement::Accept, Outcome::Kept));
+    assert_eq!(found.shares, shares[3]);
+    assert!(found.text.starts_with("setup 257 4 3 16\ndealing 1 holder 3\nverdict accept\noutcome kept\nshare 0 "));
+    print!("holder 3's file prints\n{}", found.text.lines().map(|line| format!("    {line}\n")).collect::<String>());
+    // A value of p in its first PV, the record behind SU and DL.
+    let start = SETUP.setup_bytes() + SETUP.dealing_bytes();
+    bytes[start + 8..start + 10].copy_from_slice(&SETUP.p.to_le_bytes());
+    let refused = read_file(&bytes).err().expect("a damaged file is refused");
+    assert_eq!(refused, FileRefusal { refusal: Refusal::Element, byte: Some(start) });
+    println!("the same with a value of 257: {refused}");
 
     // Seven holders open: first a combination of two columns, 3 times column 0 and 5 times column 2, then the key.
     let seven: u32 = 0b1000_0100_1011_0101;
@@ -111,12 +117,14 @@ pub fn main() -> Result<(), Refusal> {
     let bytes: Vec<u8> = opened.iter().map(|&x| x as u8).collect();
     println!("opened by holders {openers:?}: \"{}\"", String::from_utf8_lossy(&bytes));
 
-    // Six of them cannot, three learn nothing, and a changed share among eight is noticed.
+    // Six of them cannot, three learn nothing (a sweeping vector for every position), and a changed share among eight is noticed.
     let six = seven & (seven - 1);
     let handed: Vec<u16> = openers[1..].iter().map(|&i| shares[i][0]).collect();
     assert_eq!(SETUP.open(&matrix, six, &handed, &mut column), Err(Refusal::Undetermined { position: 0 }));
     assert!(SETUP.private(&matrix, 0b111)?);
-    assert_eq!(SETUP.judge_set(&matrix, 0b111, 0, &mut [0; SET_ENTRIES])?, SetKind::Vector);
+    for position in 0..4 {
+        assert_eq!(SETUP.judge_set(&matrix, 0b111, position, &mut [0; SET_ENTRIES])?, SetKind::Vector);
+    }
     let mut handed: Vec<u16> = (0..8).map(|i| shares[i][0]).collect();
     handed[5] = (handed[5] + 1) % 257;
     assert_eq!(SETUP.open(&matrix, 0xff, &handed, &mut column), Err(Refusal::Inconsistent));

@@ -1,10 +1,21 @@
 //! Packed verifiable secret sharing: a safe interface to a proved library.
 //!
 //! A dealer gives a key of ℓ columns of ℓ field elements to n holders. A set of holders whose rows of the setup's matrix determine the secrets
-//! brings them back; a private set learns nothing; and holders who follow the rules cannot be left with shares that open two ways.
+//! brings them back, and holders who follow the rules cannot be left with shares that open two ways.
 //!
-//! Every call is one call of the library, which is proved against definitions; this crate only passes slices and turns numbers into types. The
-//! library tests all it is lent, lengths too, and refuses what is wrong; after a refusal every lent slice holds what it held before.
+//! On a points matrix ([`Setup::points`]) any ℓ + e holders bring the secrets back and any e of them learn nothing; the library's proofs do not have
+//! that rule yet, only the answer of each call on each set. On another matrix the number of holders shows neither: [`Setup::determines`] says whether
+//! a set brings the secrets back, and a set learns nothing only where [`Setup::judge_set`] finds a sweeping vector for every position.
+//!
+//! An opening is to be made by enough honest holders: where those among the openers determine the secrets by themselves, the others can only cause
+//! a refusal. Where they do not, a false share can open to false secrets.
+//!
+//! Every call is one call of the library ([`read_file`] two, for the contents and the text), which is proved against definitions; this crate only
+//! passes slices and turns numbers into types. The library tests all it is lent, lengths too, and refuses what is wrong; after a refusal every lent
+//! slice holds what it held before.
+//!
+//! Types that carry shares or pair values have no `Debug` and are not `Copy`, so that they are not printed or copied in passing. Nothing is wiped:
+//! what a call worked with stays on the stack, and what a caller lent is the caller's to clear.
 //!
 //! A setup is four numbers, [`Setup`], with its matrix beside them in a slice of n · d field elements by rows, where d = ℓ + e. Holders, columns
 //! and positions count from 0. A set of holders is a number whose bit i stands for holder i.
@@ -60,8 +71,6 @@ pub const VERDICT_BYTES: usize = 8;
 pub const SHARE_BYTES: usize = 10;
 /// The most bytes of a holder's file.
 pub const MOST_FILE_BYTES: usize = 4096;
-/// Bytes of the slice that [`holder_file`] writes into.
-pub const REPORT_BYTES: usize = 256;
 
 /// Why a call declined. Where more than one applies, a call gives the one with the lowest number; a reader judges the setup it is given, then
 /// the mark, then the length, then the rest.
@@ -75,7 +84,8 @@ pub enum Refusal {
     Length,
     /// 4: a field element is p or more.
     Element,
-    /// 5: a holder, column or position is out of range, a share of a combination has a column other than 0, or a set has a bit at or above n.
+    /// 5: a holder, column or position is out of range, a share of a combination has a column other than 0, a set has a bit at or above n, or a PV of a
+    /// file is for another holder.
     Range,
     /// 6: the opening set does not determine the secrets.
     Undetermined {
@@ -84,12 +94,18 @@ pub enum Refusal {
     },
     /// 7: the set determines the secrets, but no vector gives all the shares.
     Inconsistent,
-    /// 8: another mark than the record's.
+    /// 8: another mark than the record's, or one that has no place there in a file.
     Mark,
-    /// 9: dealing number 0 outside SH.
+    /// 9: dealing number 0 outside SH, or another one than the file's.
     DealingNumber,
+    /// 10: in a file a second SU or DL, or a second PV or VD from one holder.
+    Repeated,
+    /// 11: a file ends with a record missing.
+    Missing,
     /// 12: a verdict is neither 0 nor 1.
     NoVerdict,
+    /// 13: in a file the holder's own VD is not what its own judgement gives.
+    OwnVerdict,
     /// 14: a combination with both lists empty.
     NoTerms,
     /// 15: a points matrix with d + n above p.
@@ -109,7 +125,10 @@ impl Refusal {
             Refusal::Inconsistent => 7,
             Refusal::Mark => 8,
             Refusal::DealingNumber => 9,
+            Refusal::Repeated => 10,
+            Refusal::Missing => 11,
             Refusal::NoVerdict => 12,
+            Refusal::OwnVerdict => 13,
             Refusal::NoTerms => 14,
             Refusal::TooFewPoints => 15,
         }
@@ -127,8 +146,11 @@ impl fmt::Display for Refusal {
             Refusal::Undetermined { position } => return write!(f, "refused 6: the set does not determine position {position}"),
             Refusal::Inconsistent => "no vector gives all the shares",
             Refusal::Mark => "another mark than the record's",
-            Refusal::DealingNumber => "dealing number 0",
+            Refusal::DealingNumber => "dealing number 0, or not the file's",
+            Refusal::Repeated => "a record comes again",
+            Refusal::Missing => "the file ends with a record missing",
             Refusal::NoVerdict => "a verdict is neither 0 nor 1",
+            Refusal::OwnVerdict => "the own verdict is not what the own judgement gives",
             Refusal::NoTerms => "a combination of nothing",
             Refusal::TooFewPoints => "the field has fewer than d + n elements",
         };
@@ -151,7 +173,10 @@ fn answer(number: u16, position: u16) -> Result<(), Refusal> {
         7 => Refusal::Inconsistent,
         8 => Refusal::Mark,
         9 => Refusal::DealingNumber,
+        10 => Refusal::Repeated,
+        11 => Refusal::Missing,
         12 => Refusal::NoVerdict,
+        13 => Refusal::OwnVerdict,
         14 => Refusal::NoTerms,
         15 => Refusal::TooFewPoints,
         other => unreachable!("the linked library gave {other}, which no call gives"),
@@ -215,9 +240,9 @@ pub enum Rehearsal {
 pub enum SetKind {
     /// A reconstruction row: the set determines the position.
     Row,
-    /// A sweeping vector: the set learns nothing about the position.
+    /// A sweeping vector: the set's shares fit every value at the position.
     Vector,
-    /// Neither.
+    /// Neither: the position is not determined, but not free of what the set holds either.
     Neither,
 }
 
@@ -230,8 +255,8 @@ pub struct DealingRecord {
     pub holder: u16,
 }
 
-/// A PV record.
-#[derive(Clone, Copy, Debug, PartialEq, Eq, Hash)]
+/// A PV record. Its value tells of the sender's share, so it has no `Debug`.
+#[derive(Clone, PartialEq, Eq)]
 pub struct PairValueRecord {
     /// Dealing number, from 1.
     pub dealing: u16,
@@ -254,8 +279,8 @@ pub struct VerdictRecord {
     pub verdict: Verdict,
 }
 
-/// An SH record.
-#[derive(Clone, Copy, Debug, PartialEq, Eq, Hash)]
+/// An SH record. It carries a share, so it has no `Debug`.
+#[derive(Clone, PartialEq, Eq)]
 pub struct ShareRecord {
     /// Dealing number; 0 marks a combination.
     pub dealing: u16,
@@ -319,7 +344,7 @@ impl Setup {
 /// Dealing.
 impl Setup {
     /// Writes the points matrix, n · d entries: from the values of a polynomial of degree below d at 0, .., d − 1, row i gives its value at d + i.
-    /// Any d holders then determine the secrets. Refusals 1, 2, 3, 15.
+    /// Any d holders then determine the secrets, and any e learn nothing (a rule that is not proved yet). Refusals 1, 2, 3, 15.
     pub fn points(&self, matrix: &mut [u16]) -> Result<(), Refusal> {
         let Setup { p, l, e, n } = *self;
         answer(unsafe { raw::mavdrusek_points(p, l, e, n, matrix.as_mut_ptr(), matrix.len()) }, 0)
@@ -473,7 +498,8 @@ impl Setup {
         Ok(yes == 1)
     }
 
-    /// Whether the set is called private, that is, has at most e members. Refusals 1 to 5.
+    /// Whether the set is called private, that is, has at most e members. It counts members and does not look at their rows: on a matrix with the row
+    /// (1, 0) a set called private opens the secret. What a set can see of a position says [`Setup::judge_set`]. Refusals 1 to 5.
     pub fn private(&self, matrix: &[u16], set: u32) -> Result<bool, Refusal> {
         let Setup { p, l, e, n } = *self;
         let mut yes = 0;
@@ -497,7 +523,11 @@ impl Setup {
         })
     }
 
-    /// Opens the set's shares of one column or combination, by rising holder, into ℓ secrets. Refusals 1 to 7.
+    /// Opens the set's shares of one column or combination, by rising holder, into ℓ secrets. As many shares are needed as there are ones among all 32
+    /// bits of the set. Refusals 1 to 7.
+    ///
+    /// Where the honest holders among the openers determine the secrets by themselves, the others can only cause a refusal; where they do not, a false
+    /// share can open to false secrets.
     pub fn open(&self, matrix: &[u16], set: u32, shares: &[u16], secrets: &mut [u16]) -> Result<(), Refusal> {
         let Setup { p, l, e, n } = *self;
         let mut position = 0;
@@ -530,7 +560,7 @@ impl Setup {
     }
 
     /// Writes a DL, [`Setup::dealing_bytes`] bytes; g and h have d entries each. Refusals 1 to 5, 9.
-    pub fn write_dealing(&self, record: DealingRecord, g: &[u16], h: &[u16], out: &mut [u8]) -> Result<(), Refusal> {
+    pub fn write_dealing(&self, record: &DealingRecord, g: &[u16], h: &[u16], out: &mut [u8]) -> Result<(), Refusal> {
         let Setup { p, l, e, n } = *self;
         let number = unsafe {
             raw::mavdrusek_write_dealing(
@@ -552,30 +582,30 @@ impl Setup {
     }
 
     /// Writes a PV, [`PAIR_VALUE_BYTES`] bytes. Refusals 1 to 5, 9.
-    pub fn write_pair_value(&self, record: PairValueRecord, out: &mut [u8]) -> Result<(), Refusal> {
+    pub fn write_pair_value(&self, record: &PairValueRecord, out: &mut [u8]) -> Result<(), Refusal> {
         let Setup { p, l, e, n } = *self;
-        let PairValueRecord { dealing, sender, receiver, value } = record;
+        let PairValueRecord { dealing, sender, receiver, value } = *record;
         answer(unsafe { raw::mavdrusek_write_pair_value(p, l, e, n, dealing, sender, receiver, value, out.as_mut_ptr(), out.len()) }, 0)
     }
 
     /// Writes a VD, [`VERDICT_BYTES`] bytes. Refusals 1, 2, 3, 5, 9.
-    pub fn write_verdict(&self, record: VerdictRecord, out: &mut [u8]) -> Result<(), Refusal> {
+    pub fn write_verdict(&self, record: &VerdictRecord, out: &mut [u8]) -> Result<(), Refusal> {
         let Setup { p, l, e, n } = *self;
-        let VerdictRecord { dealing, holder, verdict } = record;
+        let VerdictRecord { dealing, holder, verdict } = *record;
         answer(unsafe { raw::mavdrusek_write_verdict(p, l, e, n, dealing, holder, verdict as u16, out.as_mut_ptr(), out.len()) }, 0)
     }
 
     /// Writes an SH, [`SHARE_BYTES`] bytes. Refusals 1 to 5.
-    pub fn write_share(&self, record: ShareRecord, out: &mut [u8]) -> Result<(), Refusal> {
+    pub fn write_share(&self, record: &ShareRecord, out: &mut [u8]) -> Result<(), Refusal> {
         let Setup { p, l, e, n } = *self;
-        let ShareRecord { dealing, holder, column, value } = record;
+        let ShareRecord { dealing, holder, column, value } = *record;
         answer(unsafe { raw::mavdrusek_write_share(p, l, e, n, dealing, holder, column, value, out.as_mut_ptr(), out.len()) }, 0)
     }
 }
 
 /// Reading records. A reader looks at one record at the start of `part`; bytes behind it are not looked at.
 impl Setup {
-    /// The four numbers of an SU whose matrix is not cut short. Refusals 1, 2, 3, 8.
+    /// The four numbers of an SU whose matrix is whole and has elements below p. Refusals 1 to 4, 8.
     pub fn read_setup(part: &[u8]) -> Result<Setup, Refusal> {
         let mut s = Setup { p: 0, l: 0, e: 0, n: 0 };
         answer(unsafe { raw::mavdrusek_read_setup_head(part.as_ptr(), part.len(), &mut s.p, &mut s.l, &mut s.e, &mut s.n) }, 0)?;
@@ -643,7 +673,7 @@ pub fn read_setup_matrix(part: &[u8], matrix: &mut [u16]) -> Result<(), Refusal>
     answer(unsafe { raw::mavdrusek_read_setup_matrix(part.as_ptr(), part.len(), matrix.as_mut_ptr(), matrix.len()) }, 0)
 }
 
-/// Whether there is a field of p elements. Refusal 1.
+/// Whether p is one of the five [`PRIMES`]. Refusal 1.
 pub fn field(p: u16) -> Result<(), Refusal> {
     answer(unsafe { raw::mavdrusek_field(p) }, 0)
 }
@@ -656,17 +686,91 @@ pub fn combine(p: u16, constants: &[u16], shares: &[u16]) -> Result<u16, Refusal
     Ok(value)
 }
 
-/// What the holder program prints for a holder's file of at most [`MOST_FILE_BYTES`] bytes, in `out`, [`REPORT_BYTES`] bytes. A faulty file is no
-/// refusal of the call: its text says so. Refusal 3.
+/// What a holder's file says. It carries shares, so it has no `Debug`.
+#[derive(Clone, PartialEq, Eq)]
+pub struct FileContents {
+    /// The setup's numbers.
+    pub setup: Setup,
+    /// The dealing number, from 1.
+    pub dealing: u16,
+    /// Whose file it is.
+    pub holder: u16,
+    /// What the holder finds on the values in the file.
+    pub judgement: Judgement,
+    /// How the dealing ends on the verdicts in the file.
+    pub outcome: Outcome,
+    /// The ℓ shares, one for each column, where the outcome is kept; else none.
+    pub shares: Vec<u16>,
+    /// What the holder program prints for the file, from the proved printer.
+    pub text: String,
+}
+
+/// Why a holder's file is refused, and where.
+#[derive(Clone, Copy, Debug, PartialEq, Eq, Hash)]
+pub struct FileRefusal {
+    /// Why.
+    pub refusal: Refusal,
+    /// The byte where the faulty record starts, or the file's length for [`Refusal::Missing`] and [`Refusal::OwnVerdict`]; none where the file has more
+    /// than [`MOST_FILE_BYTES`] bytes.
+    pub byte: Option<usize>,
+}
+
+/// As the holder program prints it: `refused N at B`.
+impl fmt::Display for FileRefusal {
+    fn fmt(&self, f: &mut fmt::Formatter) -> fmt::Result {
+        let number = self.refusal.number();
+        match self.byte {
+            Some(byte) => write!(f, "refused {number} at {byte}"),
+            None => write!(f, "refused {number}: a file has at most {MOST_FILE_BYTES} bytes"),
+        }
+    }
+}
+
+impl Error for FileRefusal {
+    fn source(&self) -> Option<&(dyn Error + 'static)> {
+        Some(&self.refusal)
+    }
+}
+
+/// Entries that a file's contents are read into.
+const CONTENTS: usize = 18;
+/// Bytes that a file's text is written into.
+const TEXT: usize = 256;
+
+/// What the place for the byte holds before a call. No file is so long, so it tells whether the call gave one.
+const NO_BYTE: usize = usize::MAX;
+
+/// What a call on a file returned, as a Result.
+fn file_answer(number: u16, byte: usize) -> Result<(), FileRefusal> {
+    answer(number, 0).map_err(|refusal| FileRefusal { refusal, byte: (byte != NO_BYTE).then_some(byte) })
+}
+
+/// Reads a holder's file of at most [`MOST_FILE_BYTES`] bytes: an SU, the holder's DL, its n PV and everyone's n VD. The first faulty record decides.
+/// Refusals 1 to 5, 8 to 13.
 ///
 /// ```
-/// let mut out = [0; mavdrusek::REPORT_BYTES];
-/// assert_eq!(mavdrusek::holder_file(b"", &mut out)?, "refused 11 at 0\n");
-/// # Ok::<(), mavdrusek::Refusal>(())
+/// use mavdrusek::{read_file, Refusal};
+///
+/// let refusal = read_file(b"").err().unwrap();
+/// assert_eq!((refusal.refusal, refusal.byte), (Refusal::Missing, Some(0)));
+/// assert_eq!(refusal.to_string(), "refused 11 at 0");
 /// ```
-pub fn holder_file<'a>(file: &[u8], out: &'a mut [u8]) -> Result<&'a str, Refusal> {
-    let mut count = 0;
-    let number = unsafe { raw::mavdrusek_holder_file(file.as_ptr(), file.len(), out.as_mut_ptr(), out.len(), &mut count) };
-    answer(number, 0)?;
-    Ok(std::str::from_utf8(&out[..count]).expect("the library prints letters, digits, spaces and line ends"))
+pub fn read_file(file: &[u8]) -> Result<FileContents, FileRefusal> {
+    let (mut contents, mut byte) = ([0; CONTENTS], NO_BYTE);
+    let number = unsafe { raw::mavdrusek_read_file(file.as_ptr(), file.len(), contents.as_mut_ptr(), contents.len(), &mut byte) };
+    file_answer(number, byte)?;
+    let text = text_of(file)?;
+    let [p, l, e, n, dealing, holder, accepts, rejected, kept, aborted, shares @ ..] = contents;
+    let setup = Setup { p, l, e, n };
+    let judgement = if accepts == 1 { Judgement::Accept } else { Judgement::Reject(rejected) };
+    let (outcome, count) = if kept == 1 { (Outcome::Kept, l as usize) } else { (Outcome::Aborted(aborted), 0) };
+    Ok(FileContents { setup, dealing, holder, judgement, outcome, shares: shares[..count].to_vec(), text })
+}
+
+/// What the proved printer gives for a file.
+fn text_of(file: &[u8]) -> Result<String, FileRefusal> {
+    let (mut out, mut count, mut byte) = ([0; TEXT], 0, NO_BYTE);
+    let number = unsafe { raw::mavdrusek_holder_file(file.as_ptr(), file.len(), out.as_mut_ptr(), out.len(), &mut count, &mut byte) };
+    file_answer(number, byte)?;
+    Ok(String::from_utf8(out[..count].to_vec()).expect("the library prints letters, digits, spaces and line ends"))
 }

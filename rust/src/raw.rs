@@ -238,5 +238,13 @@ unsafe extern "C" {
         column: *mut u16,
         value: *mut u16,
     ) -> u16;
-    pub fn mavdrusek_holder_file(file: *const u8, file_len: usize, out: *mut u8, out_len: usize, count: *mut usize) -> u16;
+    pub fn mavdrusek_read_file(file: *const u8, file_len: usize, contents: *mut u16, contents_len: usize, byte: *mut usize) -> u16;
+    pub fn mavdrusek_holder_file(
+        file: *const u8,
+        file_len: usize,
+        out: *mut u8,
+        out_len: usize,
+        count: *mut usize,
+        byte: *mut usize,
+    ) -> u16;
 }

@@ -10,34 +10,69 @@ fn file(values: [u16; 3], verdicts: [Verdict; 3]) -> Vec<u8> {
     let mut bytes = vec![0; SETUP.setup_bytes() + SETUP.dealing_bytes()];
     let (setup, dealing) = bytes.split_at_mut(SETUP.setup_bytes());
     SETUP.write_setup(&MATRIX, setup).unwrap();
-    SETUP.write_dealing(DealingRecord { dealing: 1, holder: 1 }, &[2, 4], &[4, 3], dealing).unwrap();
+    SETUP.write_dealing(&DealingRecord { dealing: 1, holder: 1 }, &[2, 4], &[4, 3], dealing).unwrap();
     for sender in 0..3 {
         let mut record = [0; PAIR_VALUE_BYTES];
         let value = values[sender as usize];
-        SETUP.write_pair_value(PairValueRecord { dealing: 1, sender, receiver: 1, value }, &mut record).unwrap();
+        SETUP.write_pair_value(&PairValueRecord { dealing: 1, sender, receiver: 1, value }, &mut record).unwrap();
         bytes.extend(record);
     }
     for holder in 0..3 {
         let mut record = [0; VERDICT_BYTES];
         let verdict = verdicts[holder as usize];
-        SETUP.write_verdict(VerdictRecord { dealing: 1, holder, verdict }, &mut record).unwrap();
+        SETUP.write_verdict(&VerdictRecord { dealing: 1, holder, verdict }, &mut record).unwrap();
         bytes.extend(record);
     }
     bytes
 }
 
-fn prints(file: &[u8]) -> String {
-    let mut out = [0; REPORT_BYTES];
-    holder_file(file, &mut out).unwrap().to_string()
+fn contents(file: &[u8]) -> FileContents {
+    match read_file(file) {
+        Ok(contents) => contents,
+        Err(refusal) => panic!("{refusal}"),
+    }
+}
+
+/// The refusal of a file, as a line of the holder program.
+fn refused(file: &[u8]) -> String {
+    read_file(file).err().expect("a refusal").to_string()
 }
 
 const ACCEPT: [Verdict; 3] = [Verdict::Accept; 3];
+const OWN_REJECTS: [Verdict; 3] = [Verdict::Accept, Verdict::Reject, Verdict::Accept];
 
 #[test]
 fn sound() {
     let file = file([2, 1, 0], ACCEPT);
     assert_eq!(file.len(), 90);
-    assert_eq!(prints(&file), "setup 7 1 1 3\ndealing 1 holder 1\nverdict accept\noutcome kept\nshare 0 2\n");
+    let found = contents(&file);
+    assert_eq!((found.setup, found.dealing, found.holder), (SETUP, 1, 1));
+    assert_eq!((found.judgement, found.outcome), (Judgement::Accept, Outcome::Kept));
+    assert_eq!(found.shares, [2]);
+    assert_eq!(found.text, "setup 7 1 1 3\ndealing 1 holder 1\nverdict accept\noutcome kept\nshare 0 2\n");
+}
+
+/// The largest sizes: eight shares, the longest text.
+#[test]
+fn largest() {
+    let setup = Setup { p: 65521, l: 8, e: 8, n: 32 };
+    let mut bytes = vec![0; setup.setup_bytes() + setup.dealing_bytes()];
+    let (first, second) = bytes.split_at_mut(setup.setup_bytes());
+    setup.write_setup(&vec![0; setup.entries()], first).unwrap();
+    let g: Vec<u16> = (65505..65521).collect();
+    setup.write_dealing(&DealingRecord { dealing: 65535, holder: 31 }, &g, &[0; 16], second).unwrap();
+    for sender in 0..32 {
+        let (mut pair, mut verdict) = ([0; PAIR_VALUE_BYTES], [0; VERDICT_BYTES]);
+        setup.write_pair_value(&PairValueRecord { dealing: 65535, sender, receiver: 31, value: 0 }, &mut pair).unwrap();
+        setup.write_verdict(&VerdictRecord { dealing: 65535, holder: sender, verdict: Verdict::Accept }, &mut verdict).unwrap();
+        bytes.extend(pair);
+        bytes.extend(verdict);
+    }
+    let found = contents(&bytes);
+    assert_eq!((found.setup, found.dealing, found.holder), (setup, 65535, 31));
+    assert_eq!(found.shares, g[..8]);
+    let shares: String = (0..8).map(|b| format!("share {b} {}\n", g[b])).collect();
+    assert_eq!(found.text, format!("setup 65521 8 8 32\ndealing 65535 holder 31\nverdict accept\noutcome kept\n{shares}"));
 }
 
 #[test]
@@ -45,39 +80,61 @@ fn any_order() {
     let file = file([2, 1, 0], ACCEPT);
     let (start, rest) = file.split_at(36);
     let turned = [start, &rest[30..], &rest[20..30], &rest[..20]].concat();
-    assert_eq!(prints(&turned), prints(&file));
+    assert!(contents(&turned) == contents(&file));
 }
 
 #[test]
 fn last_verdict_gone() {
-    assert_eq!(prints(&file([2, 1, 0], ACCEPT)[..82]), "refused 11 at 82\n");
+    let short = &file([2, 1, 0], ACCEPT)[..82];
+    assert!(read_file(short) == Err(FileRefusal { refusal: Refusal::Missing, byte: Some(82) }));
+    assert_eq!(refused(short), "refused 11 at 82");
 }
 
 #[test]
 fn another_value() {
-    let own_rejects = [Verdict::Accept, Verdict::Reject, Verdict::Accept];
-    let text = "setup 7 1 1 3\ndealing 1 holder 1\nverdict reject 0\noutcome aborted 1\n";
-    assert_eq!(prints(&file([3, 1, 0], own_rejects)), text);
-    assert_eq!(prints(&file([3, 1, 0], ACCEPT)), "refused 13 at 90\n");
+    let found = contents(&file([3, 1, 0], OWN_REJECTS));
+    assert_eq!((found.judgement, found.outcome), (Judgement::Reject(0), Outcome::Aborted(1)));
+    assert_eq!(found.shares, []);
+    assert_eq!(found.text, "setup 7 1 1 3\ndealing 1 holder 1\nverdict reject 0\noutcome aborted 1\n");
+    assert!(read_file(&file([3, 1, 0], ACCEPT)) == Err(FileRefusal { refusal: Refusal::OwnVerdict, byte: Some(90) }));
+}
+
+/// Another holder's rejection: the own judgement accepts, the outcome is aborted.
+#[test]
+fn aborted() {
+    let found = contents(&file([2, 1, 0], [Verdict::Accept, Verdict::Accept, Verdict::Reject]));
+    assert_eq!((found.judgement, found.outcome), (Judgement::Accept, Outcome::Aborted(2)));
+    assert_eq!(found.shares, []);
 }
 
 #[test]
 fn damaged() {
     let sound = file([2, 1, 0], ACCEPT);
-    for (at, byte, text) in [
-        (0, 0, "refused 8 at 0\n"),
-        (2, 8, "refused 1 at 0\n"),
-        (4, 9, "refused 2 at 0\n"),
-        (10, 7, "refused 4 at 0\n"),
-        (24, 0, "refused 9 at 22\n"),
-        (26, 3, "refused 5 at 22\n"),
-        (50, 0, "refused 10 at 46\n"), // the second PV from holder 0 again
-        (72, 2, "refused 12 at 66\n"),
+    for (at, byte, refusal, start) in [
+        (0, 0, Refusal::Mark, 0),
+        (2, 8, Refusal::NoField, 0),
+        (4, 9, Refusal::Limits, 0),
+        (10, 7, Refusal::Element, 0),
+        (24, 0, Refusal::DealingNumber, 22),
+        (26, 3, Refusal::Range, 22),
+        (42, 0, Refusal::Range, 36),         // a PV to holder 0
+        (48, 2, Refusal::DealingNumber, 46), // another dealing's PV
+        (50, 0, Refusal::Repeated, 46),      // the second PV from holder 0 again
+        (72, 2, Refusal::NoVerdict, 66),
     ] {
         let mut file = sound.clone();
         file[at] = byte;
-        assert_eq!(prints(&file), text, "byte {at}");
+        assert!(read_file(&file) == Err(FileRefusal { refusal, byte: Some(start) }), "byte {at}: {}", refused(&file));
+        assert_eq!(refused(&file), format!("refused {} at {start}", refusal.number()));
     }
-    assert_eq!(prints(&sound[..89]), "refused 3 at 82\n");
-    assert_eq!(prints(&[&sound[..], b"S"].concat()), "refused 3 at 90\n");
+    assert_eq!(refused(&sound[..89]), "refused 3 at 82");
+    assert_eq!(refused(&[&sound[..], b"S"].concat()), "refused 3 at 90");
+}
+
+/// A file beyond 4,096 bytes is refused by its length, at no byte; one of just as many is looked at.
+#[test]
+fn too_long() {
+    assert!(read_file(&[0; MOST_FILE_BYTES + 1]) == Err(FileRefusal { refusal: Refusal::Length, byte: None }));
+    assert_eq!(refused(&[0; MOST_FILE_BYTES + 1]), "refused 3: a file has at most 4096 bytes");
+    assert_eq!(refused(&[0; MOST_FILE_BYTES]), "refused 8 at 0");
 }

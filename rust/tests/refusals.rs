@@ -17,7 +17,10 @@ fn numbers() {
         (Refusal::Inconsistent, 7),
         (Refusal::Mark, 8),
         (Refusal::DealingNumber, 9),
+        (Refusal::Repeated, 10),
+        (Refusal::Missing, 11),
         (Refusal::NoVerdict, 12),
+        (Refusal::OwnVerdict, 13),
         (Refusal::NoTerms, 14),
         (Refusal::TooFewPoints, 15),
     ];
@@ -77,20 +80,20 @@ fn empty_slices() {
     assert_eq!(SETUP.judge_set(&[], 0, 0, &mut []), Err(Refusal::Length));
     assert_eq!(SETUP.open(&[], 0, &[], &mut []), Err(Refusal::Length));
     assert_eq!(SETUP.write_setup(&[], &mut []), Err(Refusal::Length));
-    assert_eq!(SETUP.write_dealing(DealingRecord { dealing: 1, holder: 0 }, &[], &[], &mut []), Err(Refusal::Length));
+    assert_eq!(SETUP.write_dealing(&DealingRecord { dealing: 1, holder: 0 }, &[], &[], &mut []), Err(Refusal::Length));
     let pair = PairValueRecord { dealing: 1, sender: 0, receiver: 0, value: 0 };
-    assert_eq!(SETUP.write_pair_value(pair, &mut []), Err(Refusal::Length));
+    assert_eq!(SETUP.write_pair_value(&pair, &mut []), Err(Refusal::Length));
     let verdict = VerdictRecord { dealing: 1, holder: 0, verdict: Verdict::Accept };
-    assert_eq!(SETUP.write_verdict(verdict, &mut []), Err(Refusal::Length));
+    assert_eq!(SETUP.write_verdict(&verdict, &mut []), Err(Refusal::Length));
     let share = ShareRecord { dealing: 1, holder: 0, column: 0, value: 0 };
-    assert_eq!(SETUP.write_share(share, &mut []), Err(Refusal::Length));
+    assert_eq!(SETUP.write_share(&share, &mut []), Err(Refusal::Length));
     assert_eq!(Setup::read_setup(&[]), Err(Refusal::Length));
     assert_eq!(read_setup_matrix(&[], &mut []), Err(Refusal::Length));
     assert_eq!(SETUP.read_dealing(&[], &mut [], &mut []), Err(Refusal::Length));
-    assert_eq!(SETUP.read_pair_value(&[]), Err(Refusal::Length));
+    assert_eq!(SETUP.read_pair_value(&[]).err(), Some(Refusal::Length));
     assert_eq!(SETUP.read_verdict(&[]), Err(Refusal::Length));
-    assert_eq!(SETUP.read_share(&[]), Err(Refusal::Length));
-    assert_eq!(holder_file(&[], &mut []), Err(Refusal::Length));
+    assert_eq!(SETUP.read_share(&[]).err(), Some(Refusal::Length));
+    assert_eq!(read_file(&[]).err(), Some(FileRefusal { refusal: Refusal::Missing, byte: Some(0) }));
     assert_eq!(combine(7, &[], &[]), Err(Refusal::NoTerms));
 }
 
@@ -119,8 +122,11 @@ fn lengths() {
     assert_eq!(combine(7, &[1; 65], &[1; 65]), Err(Refusal::Length));
     assert_eq!(combine(7, &[1; 64], &[1; 64]), Ok(1));
     assert_eq!(combine(7, &[], &[1]), Err(Refusal::Length));
-    assert_eq!(holder_file(&[0; 4097], &mut [0; REPORT_BYTES]), Err(Refusal::Length));
-    assert_eq!(holder_file(&[0; 4096], &mut [0; REPORT_BYTES]), Ok("refused 8 at 0\n"));
+    // As many shares as there are ones among all 32 bits of the set.
+    assert_eq!(SETUP.open(&m, 0b1001, &[0, 4], &mut [9]), Err(Refusal::Range));
+    assert_eq!(SETUP.open(&m, 0b1001, &[0], &mut [9]), Err(Refusal::Length));
+    assert_eq!(read_file(&[0; 4097]).err(), Some(FileRefusal { refusal: Refusal::Length, byte: None }));
+    assert_eq!(read_file(&[0; 4096]).err(), Some(FileRefusal { refusal: Refusal::Mark, byte: Some(0) }));
 }
 
 #[test]
@@ -153,8 +159,8 @@ fn ranges() {
     assert_eq!(SETUP.open(&m, 0b1001, &[0, 4], &mut [9]), Err(Refusal::Range));
     let share = ShareRecord { dealing: 0, holder: 0, column: 1, value: 0 };
     let two = Setup { l: 2, ..SETUP };
-    assert_eq!(two.write_share(share, &mut [0; SHARE_BYTES]), Err(Refusal::Range));
-    assert_eq!(two.write_share(ShareRecord { dealing: 1, ..share }, &mut [0; SHARE_BYTES]), Ok(()));
+    assert_eq!(two.write_share(&share, &mut [0; SHARE_BYTES]), Err(Refusal::Range));
+    assert_eq!(two.write_share(&ShareRecord { dealing: 1, ..share }, &mut [0; SHARE_BYTES]), Ok(()));
 }
 
 /// The lowest position with no row: of two unit rows among three positions the second is left out.
@@ -181,9 +187,9 @@ fn points() {
 fn records() {
     let mut out = [9; PAIR_VALUE_BYTES];
     let pair = PairValueRecord { dealing: 0, sender: 0, receiver: 0, value: 0 };
-    assert_eq!(SETUP.write_pair_value(pair, &mut out), Err(Refusal::DealingNumber));
-    assert_eq!(SETUP.write_pair_value(PairValueRecord { value: 7, ..pair }, &mut out), Err(Refusal::Element));
-    assert_eq!(SETUP.write_pair_value(PairValueRecord { receiver: 3, ..pair }, &mut out), Err(Refusal::Range));
+    assert_eq!(SETUP.write_pair_value(&pair, &mut out), Err(Refusal::DealingNumber));
+    assert_eq!(SETUP.write_pair_value(&PairValueRecord { value: 7, ..pair }, &mut out), Err(Refusal::Element));
+    assert_eq!(SETUP.write_pair_value(&PairValueRecord { receiver: 3, ..pair }, &mut out), Err(Refusal::Range));
     assert_eq!(out, [9; PAIR_VALUE_BYTES]);
 
     assert_eq!(SETUP.read_verdict(b"VD\x01\0\x02\0\x02\0"), Err(Refusal::NoVerdict));
@@ -196,6 +202,10 @@ fn records() {
     assert_eq!(Setup::read_setup(b"SU\x07\0\x01\0\x09\0\x01\0"), Err(Refusal::Limits));
     assert_eq!(Setup::read_setup(b"SU\x07\0\x01\0\x01\0\x01\0\x01\0\x02"), Err(Refusal::Length));
     assert_eq!(Setup::read_setup(b"DL"), Err(Refusal::Mark));
+    // An SU's elements are tested by the call for its numbers too, after its whole length.
+    assert_eq!(Setup::read_setup(b"SU\x07\0\x01\0\x01\0\x01\0\x01\0\x07\0"), Err(Refusal::Element));
+    assert_eq!(Setup::read_setup(b"SU\x07\0\x01\0\x01\0\x01\0\x07\0\x02"), Err(Refusal::Length));
+    assert_eq!(Setup::read_setup(b"SU\x07\0\x01\0\x01\0\x01\0\x01\0\x06\0"), Ok(Setup { n: 1, ..SETUP }));
     let mut matrix = [9; 2];
     assert_eq!(read_setup_matrix(b"SU\x07\0\x01\0\x01\0\x01\0\x01\0\x07\0", &mut matrix), Err(Refusal::Element));
     assert_eq!(matrix, [9; 2]);

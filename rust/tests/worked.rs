@@ -75,6 +75,24 @@ fn openings() {
     assert_eq!(open(0, &[]), Err(Refusal::Undetermined { position: 0 }));
 }
 
+/// A set called private may open: with the row (1, 0) the share is the secret.
+#[test]
+fn called_private() {
+    let setup = Setup { p: 7, l: 1, e: 1, n: 1 };
+    let mut secret = [9];
+    assert_eq!(setup.private(&[1, 0], 0b1), Ok(true));
+    assert_eq!(setup.judge_set(&[1, 0], 0b1, 0, &mut [9; 32]), Ok(SetKind::Row));
+    assert_eq!((setup.open(&[1, 0], 0b1, &[5], &mut secret), secret), (Ok(()), [5]));
+}
+
+/// A false share of holder 2: beside holder 1 alone it opens to a false secret, beside two honest openers it is refused.
+#[test]
+fn honest_openers() {
+    assert_eq!(open(0b110, &[2, 4]), Ok(3));
+    assert_eq!(open(0b110, &[2, 5]), Ok(0));
+    assert_eq!(open(0b111, &[0, 2, 5]), Err(Refusal::Inconsistent));
+}
+
 #[test]
 fn combinations() {
     let doubled: Vec<u16> = [0, 2, 4].iter().map(|&share| combine(7, &[2], &[share]).unwrap()).collect();
