@@ -403,12 +403,29 @@ fn write(text: &[u8], count: usize) {
     }
 }
 
+// A place for a count or a byte, which holds 7777 before the call.
+fn print_place(x: usize) {
+    io::print_decimal(STDOUT_FILENO, x as u64);
+    io::write_all(STDOUT_FILENO, b" ");
+}
+
 // What a holder's file prints.
 fn holder_file(file: &[u8]) {
     let mut text = [0u8; 256];
-    let mut count: usize = 0;
-    c_api::mavdrusek_holder_file(file, &mut text, &mut count);
+    let mut count: usize = 7777;
+    let mut byte: usize = 7777;
+    print(c_api::mavdrusek_holder_file(file, &mut text, &mut count, &mut byte));
+    print_place(count);
+    print_place(byte);
     write(&text, count);
+}
+
+// What a holder's file holds.
+fn read_file(file: &[u8], contents: &mut [u16]) {
+    let mut byte: usize = 7777;
+    print(c_api::mavdrusek_read_file(file, contents, &mut byte));
+    print_place(byte);
+    print_words(contents);
 }
 
 // CASES
@@ -431,6 +448,7 @@ fn call(
     match k[0] {
         0..=7 => dealing_call(k[0], p, l, e, n, x, a, b, c, d, f),
         12 => holder_file(bytes),
+        24 => read_file(bytes, a),
         13..=17 => writing_call(k[0], p, l, e, n, x, y, z, k[8], a, b, bytes),
         18..=23 => reading_call(k[0], p, l, e, n, bytes, a, b),
         _ => opening_call(k[0], p, l, e, n, set(x, y), z, a, b, c),

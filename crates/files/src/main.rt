@@ -1,29 +1,16 @@
 // Many holder's files from standard input, each behind its length of two bytes, and what is printed for each.
-use holder_file::Printing;
+ghost use Prim.Native.Nat.{_≤_};
+ghost use lib.ListN.{length};
 use libc::STDIN_FILENO;
 use libc::STDOUT_FILENO;
 
-// The number of bytes printed.
-fn count(printing: Printing) -> usize {
-    match printing {
-        Printing::Bytes(k) => k,
-        Printing::Refused(_) => 0,
-    }
-}
-
-fn write(text: &[u8], count: usize) {
-    if count <= text.len() {
-        io::write_all(STDOUT_FILENO, &text[..count]);
-    }
-}
-
-// Prints the file that the first len bytes are.
-fn print(file: &[u8], len: usize) {
-    if len <= file.len() {
-        let mut text = [0u8; 256];
-        let printing = holder_file::holder_file(&file[..len], &mut text);
-        write(&text, count(printing));
-    }
+// Prints a file.
+fn print(file: &[u8])
+    requires { ⌜ length (now file) ≤ 4096 ⌝ }
+{
+    let mut text = [0u8; 256];
+    let count = holder_file::print_file(file, &mut text);
+    io::write_all(STDOUT_FILENO, &text[..count]);
 }
 
 // Reads len bytes; false where there are fewer.
@@ -41,11 +28,14 @@ fn next() -> bool {
         return false;
     }
     let len = words::word(&size, 0) as usize;
-    let mut file = io::buffer();
+    let mut file = [0u8; 4096];
+    if 4096 < len {
+        return false;
+    }
     if !read(&mut file, len) {
         return false;
     }
-    print(&file, len);
+    print(&file[..len]);
     true
 }
 

@@ -1,42 +1,35 @@
+-- What is printed fits the buffer.
 use mathlib.Core.Path.{sym}
 use lib.Seq.{length-take-le}
 use borrow.Author.Needs.{needs}
 use Rattle.files.proofs.print.Statement.{statement}
 use Rattle.files.proofs.print.Tie as tie
 
-slice-aggregate-holder-file : tie.Need-slice-aggregate-holder-file
-slice-aggregate-holder-file c = sym (length-take-le _ _ (c .before .if1 .taken))
+slice-aggregate-print-file : tie.Need-slice-aggregate-print-file
+slice-aggregate-print-file c = search needs
 
-slice-aggregate-holder-file-2 : tie.Need-slice-aggregate-holder-file-2
-slice-aggregate-holder-file-2 c = search needs
+print-file-requires : tie.Need-print-file-requires
+print-file-requires c κs = search needs
 
-holder-file-requires : tie.Need-holder-file-requires
-holder-file-requires c κs = search needs
+array-share-prefix-text : tie.Need-array-share-prefix-text
+array-share-prefix-text c = search needs
 
-slice-aggregate-write : tie.Need-slice-aggregate-write
-slice-aggregate-write c = search needs
+slice-aggregate-write-all : tie.Need-slice-aggregate-write-all
+slice-aggregate-write-all c = sym (length-take-le _ _ (array-share-prefix-text (c .before)))
 
-count-requires : tie.Need-count-requires
-count-requires c κs = search needs
-
-write-requires : tie.Need-write-requires
-write-requires c κs = search needs
+write-all-requires : tie.Need-write-all-requires
+write-all-requires c κs = search needs
 
 returns : tie.Need-returns
 returns c = search needs
-
-returns-2 : tie.Need-returns-2
-returns-2 c = search needs
 
 pub print-spec : {M : Type 1} → statement M
 print-spec =
     tie.close
     (tie.spec
-    slice-aggregate-holder-file
-    slice-aggregate-holder-file-2
-    holder-file-requires
-    slice-aggregate-write
-    count-requires
-    write-requires
-    returns
-    returns-2)
+    slice-aggregate-print-file
+    print-file-requires
+    array-share-prefix-text
+    slice-aggregate-write-all
+    write-all-requires
+    returns)
