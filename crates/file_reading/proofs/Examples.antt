@@ -1,7 +1,6 @@
 -- Document 01's file of 90 bytes and its three variants ("The holder program on paper"), read by the definitions.
 -- worked, last-gone, rejected, contradicted: the four files, one line here for each record; workedContents, rejectedContents: what the first and the third hold
-use mathlib.Core.Path.{_≡_, refl, ap}
-use mathlib.Core.Bool.{true}
+use mathlib.Core.Path.{_≡_, refl}
 use mathlib.Core.List.{List, [], _∷_}
 use Prim.Native.Nat.{ℕ}
 use Rattle.base.specs.Sum.{sum}

@@ -1,12 +1,13 @@
 -- Contents in order are read back from their file: no rule of its records holds, and what is received is what was sent.
 -- fair-pair, fair-verdict: a record whose fields are in order and whose sender has sent none before is taken
 -- pairs-given, verdicts-given: the records of the holders from j on, given by rising holder
+-- table-complete, table-back: the table that they leave is complete, and gives the list back
 -- reads-back, honest-files: the statements of specs/Sound.antt
 use mathlib.Core.Path.{_≡_, refl, sym, ap, _∙_}
 use mathlib.Core.Bool.{Bool, true, false, not, _&&_}
 use mathlib.Core.List.{List, [], _∷_, _++_, append-assoc, append-nil}
 use mathlib.Core.Logic.{inr}
-use Prim.Native.Nat.{ℕ, zero, suc, _+_, _-_, _*_, _≤_, _<_}
+use Prim.Native.Nat.{ℕ, zero, suc, _+_, _-_, _*_, _/_, _%_, _≤_, _<_}
 use native.Mathlib.Nat.{add-zero, zero-add}
 use native.Mathlib.Numerals.{add-one}
 use native.Mathlib.Omega.{arith}
@@ -14,39 +15,39 @@ use borrow.Author.Tests.{eq-eqb, ne-eqb, lt-leb}
 use lib.Dec.{eqb, ltb}
 use lib.ListN.{length, getD, set, drop, replicate, length-append, length-replicate, getD-replicate}
 use lib.Seq.{drop-at}
-use Rattle.base.specs.Choice.{pick}
 use Rattle.base.specs.Rules.{refusal, Clear, Answer}
-use Rattle.base.specs.Search.{Vec, every}
+use Rattle.base.specs.Search.{Vec}
 use Rattle.base.specs.Fill.{tab, tabFrom, laid}
+use Rattle.base.specs.Matrix.{Below}
 use Rattle.base.proofs.Rules.{none-applies}
 use Rattle.base.proofs.Search.{every-all}
-use Rattle.base.proofs.Fill.{laid-none, laid-store, laid-out, laid-in, length-tab, tab-is}
+use Rattle.base.proofs.Fill.{laid-store, laid-out, laid-in, length-tab, tab-is}
 use Rattle.linear.specs.Dot.{at}
 use Rattle.scheme.specs.declared.Judgement.the-variants.{Accept}
 use Rattle.scheme.specs.declared.Fate.the-variants.{Kept}
-use Rattle.scheme.specs.Setup.{Setup, dim, Limits, IsSetup}
+use Rattle.scheme.specs.Setup.{Setup, dim}
 use Rattle.scheme.specs.Dealing.{judge, outcome}
 use Rattle.scheme.specs.Calls.{limits, judgeRules, outcomeRules}
 use Rattle.scheme.specs.Demand.{Dealing, Honest}
-use Rattle.scheme.proofs.Calls.{not-refused, limits-clear, elements-clear, deal-ok, judge-ok, outcome-ok}
+use Rattle.scheme.proofs.Calls.{not-refused, limits-clear, limits-pos, below-vec, elements-clear, deal-ok, judge-ok, outcome-ok}
 use Rattle.scheme.proofs.Verdicts.{kept-means}
 use Rattle.scheme.proofs.Demand.{demand3}
-use Rattle.words.specs.Words.{bytes, wordAt}
+use Rattle.words.specs.Words.{bytes, Bytes}
 use Rattle.words.proofs.Words.{length-bytes, word-of}
 use Rattle.records.specs.declared.DealingRecord.{DealingRecord}
 use Rattle.records.specs.declared.PairRecord.{PairRecord}
 use Rattle.records.specs.declared.VerdictRecord.{VerdictRecord}
-use Rattle.records.specs.Records.{markSU, setupWords, dealingWords, pairWords, verdictWords, setupSize, dealingSize, setupAt, dealingAt, dealingG, dealingH, readSetupRules}
+use Rattle.records.specs.Records.{markPV, markVD, setupWords, dealingWords, pairWords, verdictWords, setupSize, dealingSize, setupAt, dealingAt, dealingG, dealingH, readSetupRules}
 use Rattle.records.proofs.Calls.{dim-small, matrix-small}
 use Rattle.records.proofs.ReadBack.{setup-at, setup-fair, dealing-at, row-at, column-at, dealing-fair}
 use Rattle.received.specs.declared.Head.{Head}
 use Rattle.received.specs.declared.Seen.{Seen}
-use Rattle.received.specs.Received.{Received, pair, verdict, body, pairRules, pairFault, verdictRules, verdictFault, takePair, takeVerdict, refuse, orTake, givePair, giveVerdict, begin, readFor, readReceived}
+use Rattle.received.specs.Received.{Received, pair, verdict, recordBytes, body, pairRules, pairFault, verdictRules, verdictFault, takePair, takeVerdict, orTake, begin, readReceived}
 use Rattle.received.proofs.Order.{give, giveAll, read-body, fewer}
-use Rattle.file_reading.specs.Contents.{Contents, InOrder, judgement, verdictOf, fate, keptShares, pairs, verdicts, fileBytes}
-use Rattle.file_reading.specs.File.{FileRead, whole, headOf, complete, lowered, contentsOf, ofContents, ofEnd, ofReceived, readFile, setupFault, dealingFault}
+use Rattle.file_reading.specs.Contents.{Contents, InOrder, judgement, verdictOf, pairs, verdicts, fileBytes}
+use Rattle.file_reading.specs.File.{FileRead, whole, headOf, complete, lowered, contentsOf, ofContents, readFile, setupFault, dealingFault}
 use Rattle.file_reading.specs.Sound.{ReadsBack, contentsOfRun, HonestFile, HonestFiles}
-use Rattle.file_reading.proofs.Steps.{judgement-is, fate-is, of-whole, of-contents, received-next, setup-own, deal-own, isSecond, file-next, left-is}
+use Rattle.file_reading.proofs.Steps.{field-le, judgement-is, fate-is, of-whole, of-contents, received-next, setup-own, deal-own, isSecond, file-next}
 
 -- A RECORD IN ORDER IS TAKEN
 fair-pair : (h : Head) (x : PairRecord) (had : ℕ) → x .value < h .p → x .sender < h .n → x .receiver ≡ h .holder → x .dealing ≡ h .dealing → had ≡ 0
@@ -144,6 +145,40 @@ body-short : (rs : List Received) → length (body rs) ≤ 10 * length rs
 body-short [] = omega arith
 body-short (pair y ∷ rs) = omega (arith, body-short rs, length-append (bytes (pairWords y)) (body rs), length-bytes (pairWords y))
 body-short (verdict y ∷ rs) = omega (arith, body-short rs, length-append (bytes (verdictWords y)) (body rs), length-bytes (verdictWords y))
+
+-- words of 16 bits are two bytes each
+below-cons : (p x : ℕ) (l : List ℕ) → x < p → Below p l → Below p (x ∷ l)
+below-cons p x l a b zero = a
+below-cons p x l a b (suc k) = b k
+
+below-append : (p : ℕ) (l m : List ℕ) → Below p l → Below p m → Below p (l ++ m)
+below-append p [] m a b = b
+below-append p (x ∷ l) m a b = below-cons p x (l ++ m) (a 0) (below-append p l m (λ k. a (suc k)) b)
+
+abbrev Words : List ℕ → Type 0
+Words [] = Unit {0}
+Words (x ∷ l) = (x < 65536) × Words l
+
+words-append : (l m : List ℕ) → Words l → Words m → Words (l ++ m)
+words-append [] m a b = b
+words-append (x ∷ l) m a b = (a .0, words-append l m (a .1) b)
+
+words-below : (p : ℕ) (l : List ℕ) → p ≤ 65536 → Below p l → Words l
+words-below p [] h b = tt
+words-below p (x ∷ l) h b = (omega (arith, b 0, h), words-below p l h (λ k. b (suc k)))
+
+two-bytes : (ws : List ℕ) → Words ws → Bytes (bytes ws)
+unfolding bytes
+two-bytes [] a = λ k. omega arith
+two-bytes (x ∷ ws) a =
+    below-cons 256 (x % 256) (x / 256 ∷ bytes ws) (omega arith) (below-cons 256 (x / 256) (bytes ws) (omega (arith, a .0)) (two-bytes ws (a .1)))
+
+body-bytes : (n : ℕ) (f : ℕ → Received) → ((k : ℕ) → k < n → Bytes (recordBytes (f k))) → (m j : ℕ) (rest : List Received) → j + m ≤ n → Bytes (body rest)
+    → Bytes (body (tabFrom j m f ++ rest))
+unfolding tabFrom
+body-bytes n f each zero j rest l b = b
+body-bytes n f each (suc m) j rest l b =
+    below-append 256 (recordBytes (f j)) (body (tabFrom (suc j) m f ++ rest)) (each j (omega arith)) (body-bytes n f each m (suc j) rest (omega arith) b)
 
 module _ (C : Contents) (ok : InOrder C) where
   abbrev S : Setup
@@ -252,8 +287,31 @@ module _ (C : Contents) (ok : InOrder C) where
         ok .setup .limits .holders .1,
       )
 
+  all-bytes : Bytes (fileBytes C)
+  unfolding tab
+  all-bytes =
+      let L = ok .setup .limits in
+      let top : S .p ≤ 65521 = field-le (S .p) (L .field) in
+      let words : (k : ℕ) (l : List ℕ) → Vec (S .p) k l → Words l = λ k l v. words-below (S .p) l (omega (arith, top)) (below-vec (S .p) k l (limits-pos S L) v) in
+      let number : C .dealing < 65536 = omega (arith, ok .dealing .1) in
+      let few : C .setup .n ≤ 32 = L .holders .1 in
+      let small : C .holder < 65536 = omega (arith, ok .holder, few) in
+      let said : (k : ℕ) → k < S .n → Bytes (recordBytes (verdict (record { dealing = C .dealing; holder = k; verdict = at (C .verdicts) k }))) = λ k l.
+      two-bytes (markVD ∷ C .dealing ∷ k ∷ at (C .verdicts) k ∷ []) (omega arith, (number, (omega (arith, l, few), (omega (arith, ok .heard .small k l), tt)))) in
+      let sent : (k : ℕ) → k < S .n → Bytes (recordBytes (pair (record { dealing = C .dealing; sender = k; receiver = C .holder; value = at (C .values) k }))) = λ k l.
+      two-bytes (markPV ∷ C .dealing ∷ k ∷ C .holder ∷ at (C .values) k ∷ [])
+      (omega arith, (number, (omega (arith, l, few), (small, (omega (arith, ok .received .small k l, top), tt))))) in
+      let heard : Bytes (body (verdicts C)) =
+      rw (append-nil (verdicts C)) at
+      (body-bytes (S .n) (λ j. verdict (record { dealing = C .dealing; holder = j; verdict = at (C .verdicts) j })) said (S .n) 0 [] (omega arith) (λ k. omega arith)) in
+      below-append 256 (su ++ dl) (body rs)
+      (below-append 256 su dl
+      (two-bytes (setupWords S) (omega arith, (omega (arith, top), (omega (arith, L .secret .1), (omega (arith, L .random .1), (omega (arith, few), words (S .n * dim S) (S .M) (ok .setup .matrix)))))))
+      (two-bytes (dealingWords x (C .g) (C .h)) (omega arith, (number, (small, words-append (C .g) (C .h) (words (dim S) (C .g) (ok .row)) (words (dim S) (C .h) (ok .column)))))))
+      (body-bytes (S .n) (λ j. pair (record { dealing = C .dealing; sender = j; receiver = C .holder; value = at (C .values) j })) sent (S .n) 0 (verdicts C) (omega arith) heard)
+
 pub reads-back : ReadsBack
-reads-back C ok = record { fits = file-fits C ok; back = reads C ok }
+reads-back C ok = record { bytes = all-bytes C ok; fits = file-fits C ok; back = reads C ok }
 
 -- HONEST RUNS
 module _ (S : Setup) (secrets random : List ℕ) (D : Dealing) (run : Honest S secrets random D) (i : ℕ) (l : i < S .n) (number : ℕ) (from : 1 ≤ number) (to : number ≤ 65535) where

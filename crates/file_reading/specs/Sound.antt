@@ -11,11 +11,13 @@ use Rattle.scheme.specs.declared.Judgement.the-variants.{Accept}
 use Rattle.scheme.specs.declared.Fate.the-variants.{Kept}
 use Rattle.scheme.specs.Setup.{Setup}
 use Rattle.scheme.specs.Demand.{Dealing, Honest}
+use Rattle.words.specs.Words.{Bytes}
 use Rattle.file_reading.specs.Contents.{Contents, InOrder, judgement, fate, keptShares, fileBytes}
 use Rattle.file_reading.specs.File.{whole, readFile}
 
--- the file is within the limit, "It reads at most 4,096 bytes", and reads back
+-- the file is one of bytes and within the limit, "It reads at most 4,096 bytes", and reads back
 pub record Accepted (C : Contents) : Type 0 where
+  pub bytes : Bytes (fileBytes C)
   pub fits : length (fileBytes C) ≤ 4096
   pub back : readFile (fileBytes C) ≡ whole C
 

@@ -1,12 +1,15 @@
 -- What is printed: the text of every contents in order, whichever order the records have; and document 01's file of 90 bytes with its three variants ("The holder program on
 -- paper"), computed from the definitions, one line here for each line there.
--- prints: the file of contents in order prints their text; prints-kept: that of an honest run says accept, kept and the shares
+-- prints, call-prints, call-leaves: the file of contents in order prints their text; prints-kept: that of an honest run says accept, kept and the shares
 -- same-text: files that differ only in the order of their PV and VD print the same
-use mathlib.Core.Path.{_≡_, sym, ap, _∙_}
-use mathlib.Core.Bool.{true}
+use mathlib.Core.Path.{_≡_, refl, sym, ap, _∙_}
+use mathlib.Core.Bool.{true, not}
 use mathlib.Core.List.{List, [], _∷_, _++_}
 use Prim.Native.Nat.{ℕ, _+_, _≤_, _<_}
-use lib.ListN.{length}
+use lib.ListN.{length, drop}
+use borrow.Author.Tests.{eq-eqb, le-ltb}
+use Rattle.base.specs.Rules.{refusal, given}
+use Rattle.base.proofs.Rules.{none-applies}
 use Rattle.base.specs.Sum.{sum}
 use Rattle.base.specs.Search.{first, firstFrom}
 use Rattle.linear.specs.Dot.{dot}
@@ -28,9 +31,26 @@ use Rattle.file_reading.proofs.Sound.{reads-back, honest-files}
 use Rattle.file_reading.proofs.Order.{headIn, same-read}
 use Rattle.file_reading.proofs.Examples.{worked, last-gone, rejected, contradicted, worked-read, last-gone-read, rejected-read, contradicted-read}
 use Rattle.holder_file.specs.Text.{textOf, lineOf, fileText}
+use Rattle.holder_file.specs.Calls.{lentFile, holderFileCall, holderFileLeft}
 
 pub prints : (C : Contents) → InOrder C → fileText (fileBytes C) ≡ textOf C
 prints C ok = ap lineOf (reads-back C ok .back)
+
+not-lent : (C : Contents) → InOrder C → (out : List ℕ) → length out ≡ 256 → refusal (lentFile (fileBytes C) out 256) ≡ 0
+not-lent C ok out e =
+    none-applies (lentFile (fileBytes C) out 256) (le-ltb 4096 (length (fileBytes C)) (reads-back C ok .fits), (ap not (eq-eqb (length out) 256 e), tt))
+
+-- and so does the call, at the front of what is lent
+pub call-prints : (C : Contents) → InOrder C → (out : List ℕ) → length out ≡ 256 → holderFileCall (fileBytes C) out ≡ given (length (textOf C) ∷ [])
+call-prints C ok out e =
+    let A = reads-back C ok in
+    rw (not-lent C ok out e, A .back) refl
+
+pub call-leaves : (C : Contents) → InOrder C → (out : List ℕ) → length out ≡ 256
+    → holderFileLeft (fileBytes C) out ≡ textOf C ++ drop (length (textOf C)) out
+call-leaves C ok out e =
+    let A = reads-back C ok in
+    rw (not-lent C ok out e, A .back) refl
 
 pub prints-kept : (S : Setup) (secrets random : List ℕ) (D : Dealing) → Honest S secrets random D → (i : ℕ) → i < S .n → (number : ℕ) → 1 ≤ number → number ≤ 65535
     → fileText (fileBytes (contentsOfRun S D number i)) ≡ printed S number i Accept Kept (D .shares i)
