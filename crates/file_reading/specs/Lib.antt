@@ -1,3 +1,4 @@
 pub mod Contents
 pub mod File
 pub mod Inner
+pub mod Sound

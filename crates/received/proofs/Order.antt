@@ -1,6 +1,7 @@
 -- The PV and VD records of a file as a list of records: reading their bytes is giving the records one after the other, and the order of accepted records leaves no
 -- trace in what has been received.
 -- give, giveAll: what has been seen after one record, and after a list
+-- read-body: reading a body is giving its records
 -- same-received: two files with the same records after the same head, both read to the end, have received the same
 use Prim.Native.Nat.{ℕ, zero, suc, _+_, _*_, _<_, _≤_}
 use mathlib.Core.Bool.{Bool, true, false}
@@ -93,8 +94,13 @@ pick-true : (b : Bool) (x y z : Seen) → (b ≡ true → x ≡ y) → pick b x 
 pick-true true x y z e = e refl
 pick-true false x y z e = refl
 
+-- fewer records than bytes
+pub fewer : (rs : List Received) → length rs ≤ length (body rs)
+fewer [] = omega arith
+fewer (r ∷ rs) = omega (arith, some r, fewer rs, length-append (recordBytes r) (body rs))
+
 -- reading a body is giving its records
-read-body : (rs : List Received) (k : ℕ) (h : Head) (a : List ℕ) (st : Seen) → st .at ≡ length a → length rs ≤ k
+pub read-body : (rs : List Received) (k : ℕ) (h : Head) (a : List ℕ) (st : Seen) → st .at ≡ length a → length rs ≤ k
     → readFor k h (a ++ body rs) st ≡ giveAll h rs st
 unfolding readFor giveAll
 read-body [] k h a st e l = read-end k h (a ++ []) st (rw append-nil (omega arith))

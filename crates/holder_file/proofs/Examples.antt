@@ -1,0 +1,100 @@
+-- What is printed: the text of every contents in order, whichever order the records have; and document 01's file of 90 bytes with its three variants ("The holder program on
+-- paper"), computed from the definitions, one line here for each line there.
+-- prints, call-prints, call-leaves: the file of contents in order prints their text; prints-kept: that of an honest run says accept, kept and the shares
+-- same-text: files that differ only in the order of their PV and VD print the same
+use mathlib.Core.Path.{_≡_, refl, sym, ap, _∙_}
+use mathlib.Core.Bool.{true, not}
+use mathlib.Core.List.{List, [], _∷_, _++_}
+use Prim.Native.Nat.{ℕ, _+_, _≤_, _<_}
+use lib.ListN.{length, drop}
+use borrow.Author.Tests.{eq-eqb, le-ltb}
+use Rattle.base.specs.Rules.{refusal, given}
+use Rattle.base.proofs.Rules.{none-applies}
+use Rattle.base.specs.Sum.{sum}
+use Rattle.base.specs.Search.{first, firstFrom}
+use Rattle.linear.specs.Dot.{dot}
+use Rattle.scheme.specs.declared.Judgement.the-variants.{Accept}
+use Rattle.scheme.specs.declared.Fate.the-variants.{Kept}
+use Rattle.scheme.specs.Answers.{paperFate}
+use Rattle.scheme.specs.Setup.{Setup}
+use Rattle.scheme.specs.Dealing.{expected, differs, saidReject, isKept}
+use Rattle.scheme.specs.Demand.{Dealing, Honest}
+use Rattle.scheme.proofs.Verdicts.{kept-means}
+use Rattle.records.specs.Records.{setupAt, setupSize, dealingSize}
+use Rattle.received.specs.Received.{Received, body, readReceived}
+use Rattle.received.proofs.Order.{Among}
+use Rattle.report.specs.Report.{width, dec, setupLine, dealingLine, verdictLine, outcomeLine, shareLine, shareLines, keptLines, refusedLine, printed}
+use Rattle.file_reading.specs.Contents.{Contents, InOrder, judgementOf, fateOf, fileBytes}
+use Rattle.file_reading.specs.Sound.{contentsOfRun}
+use Rattle.file_reading.proofs.Steps.{fate-paper}
+use Rattle.file_reading.proofs.Sound.{reads-back, honest-files}
+use Rattle.file_reading.proofs.Order.{headIn, same-read}
+use Rattle.file_reading.proofs.Examples.{worked, last-gone, rejected, contradicted, worked-read, last-gone-read, rejected-read, contradicted-read}
+use Rattle.holder_file.specs.Text.{textOf, lineOf, fileText}
+use Rattle.holder_file.specs.Calls.{lentFile, holderFileCall, holderFileLeft}
+
+pub prints : (C : Contents) → InOrder C → fileText (fileBytes C) ≡ textOf C
+prints C ok = ap lineOf (reads-back C ok .back)
+
+not-lent : (C : Contents) → InOrder C → (out : List ℕ) → length out ≡ 256 → refusal (lentFile (fileBytes C) out 256) ≡ 0
+not-lent C ok out e =
+    none-applies (lentFile (fileBytes C) out 256) (le-ltb 4096 (length (fileBytes C)) (reads-back C ok .fits), (ap not (eq-eqb (length out) 256 e), tt))
+
+-- and so does the call, at the front of what is lent
+pub call-prints : (C : Contents) → InOrder C → (out : List ℕ) → length out ≡ 256 → holderFileCall (fileBytes C) out ≡ given (length (textOf C) ∷ [])
+call-prints C ok out e =
+    let A = reads-back C ok in
+    rw (not-lent C ok out e, A .back) refl
+
+pub call-leaves : (C : Contents) → InOrder C → (out : List ℕ) → length out ≡ 256
+    → holderFileLeft (fileBytes C) out ≡ textOf C ++ drop (length (textOf C)) out
+call-leaves C ok out e =
+    let A = reads-back C ok in
+    rw (not-lent C ok out e, A .back) refl
+
+pub prints-kept : (S : Setup) (secrets random : List ℕ) (D : Dealing) → Honest S secrets random D → (i : ℕ) → i < S .n → (number : ℕ) → 1 ≤ number → number ≤ 65535
+    → fileText (fileBytes (contentsOfRun S D number i)) ≡ printed S number i Accept Kept (D .shares i)
+unfolding textOf
+prints-kept S secrets random D run i l number a b =
+    let F = honest-files S secrets random D run i l number a b in
+    let k : isKept S (D .verdicts i) ≡ true = kept-means S (D .verdicts i) (sym (fate-paper S (D .verdicts i)) ∙ ap paperFate (F .keeps)) in
+    prints (contentsOfRun S D number i) (F .in-order)
+    ∙ rw (F .accepts, F .keeps) (ap (printed S number i Accept Kept) (rw k at (F .shares)))
+
+-- document 01: "Two files that differ only in that order and are both read to the end print the same"
+module _ (a : List ℕ) (e : length a ≡ setupSize (setupAt a) + dealingSize (setupAt a))
+    (rs qs : List Received) (p : (r : Received) → Among r rs → Among r qs) (q : (r : Received) → Among r qs → Among r rs) (len : length (body rs) ≡ length (body qs))
+    (y : readReceived (headIn a) (a ++ body rs) (length a) .refusal ≡ 0) (z : readReceived (headIn a) (a ++ body qs) (length a) .refusal ≡ 0) where
+  pub same-text : fileText (a ++ body rs) ≡ fileText (a ++ body qs)
+  same-text = ap lineOf (same-read a e rs qs p q len y z)
+
+-- "setup 7 1 1 3", "dealing 1 holder 1", "verdict accept", "outcome kept", "share 0 2"
+pub worked-text : fileText worked
+    ≡ 115 ∷ 101 ∷ 116 ∷ 117 ∷ 112 ∷ 32 ∷ 55 ∷ 32 ∷ 49 ∷ 32 ∷ 49 ∷ 32 ∷ 51 ∷ 10
+    ∷ 100 ∷ 101 ∷ 97 ∷ 108 ∷ 105 ∷ 110 ∷ 103 ∷ 32 ∷ 49 ∷ 32 ∷ 104 ∷ 111 ∷ 108 ∷ 100 ∷ 101 ∷ 114 ∷ 32 ∷ 49 ∷ 10
+    ∷ 118 ∷ 101 ∷ 114 ∷ 100 ∷ 105 ∷ 99 ∷ 116 ∷ 32 ∷ 97 ∷ 99 ∷ 99 ∷ 101 ∷ 112 ∷ 116 ∷ 10
+    ∷ 111 ∷ 117 ∷ 116 ∷ 99 ∷ 111 ∷ 109 ∷ 101 ∷ 32 ∷ 107 ∷ 101 ∷ 112 ∷ 116 ∷ 10
+    ∷ 115 ∷ 104 ∷ 97 ∷ 114 ∷ 101 ∷ 32 ∷ 48 ∷ 32 ∷ 50 ∷ 10 ∷ []
+unfolding textOf sum first firstFrom dot expected differs saidReject isKept judgementOf fateOf width dec setupLine dealingLine verdictLine outcomeLine shareLine shareLines keptLines
+worked-text = ap lineOf worked-read
+
+-- "Last VD gone: `refused 11 at 82`"
+pub last-gone-text : fileText last-gone
+    ≡ 114 ∷ 101 ∷ 102 ∷ 117 ∷ 115 ∷ 101 ∷ 100 ∷ 32 ∷ 49 ∷ 49 ∷ 32 ∷ 97 ∷ 116 ∷ 32 ∷ 56 ∷ 50 ∷ 10 ∷ []
+unfolding width dec refusedLine
+last-gone-text = ap lineOf last-gone-read
+
+-- "PV from 0 made 3: own VD 0 gives `verdict reject 0` and `outcome aborted 1`": no share line
+pub rejected-text : fileText rejected
+    ≡ 115 ∷ 101 ∷ 116 ∷ 117 ∷ 112 ∷ 32 ∷ 55 ∷ 32 ∷ 49 ∷ 32 ∷ 49 ∷ 32 ∷ 51 ∷ 10
+    ∷ 100 ∷ 101 ∷ 97 ∷ 108 ∷ 105 ∷ 110 ∷ 103 ∷ 32 ∷ 49 ∷ 32 ∷ 104 ∷ 111 ∷ 108 ∷ 100 ∷ 101 ∷ 114 ∷ 32 ∷ 49 ∷ 10
+    ∷ 118 ∷ 101 ∷ 114 ∷ 100 ∷ 105 ∷ 99 ∷ 116 ∷ 32 ∷ 114 ∷ 101 ∷ 106 ∷ 101 ∷ 99 ∷ 116 ∷ 32 ∷ 48 ∷ 10
+    ∷ 111 ∷ 117 ∷ 116 ∷ 99 ∷ 111 ∷ 109 ∷ 101 ∷ 32 ∷ 97 ∷ 98 ∷ 111 ∷ 114 ∷ 116 ∷ 101 ∷ 100 ∷ 32 ∷ 49 ∷ 10 ∷ []
+unfolding textOf sum first firstFrom dot expected differs saidReject isKept judgementOf fateOf width dec setupLine dealingLine verdictLine outcomeLine shareLine shareLines keptLines
+rejected-text = ap lineOf rejected-read
+
+-- "own VD 1 gives `refused 13 at 90`"
+pub contradicted-text : fileText contradicted
+    ≡ 114 ∷ 101 ∷ 102 ∷ 117 ∷ 115 ∷ 101 ∷ 100 ∷ 32 ∷ 49 ∷ 51 ∷ 32 ∷ 97 ∷ 116 ∷ 32 ∷ 57 ∷ 48 ∷ 10 ∷ []
+unfolding width dec refusedLine
+contradicted-text = ap lineOf contradicted-read
