@@ -666,8 +666,8 @@ pub extern "C" fn mavdrusek_holder_file(
             *count = n;
             0
         }
-        Printing::RefusedAt(k, at) => {
-            *byte = at;
+        Printing::RefusedAt(k, start) => {
+            *byte = start;
             k
         }
         Printing::Refused(k) => k,
