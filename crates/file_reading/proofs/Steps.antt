@@ -1,7 +1,7 @@
 -- The steps from what the calls answer to what is read: the answer types name the definitions' judgement and outcome, and each test on the way picks what is read.
 use Prim.Native.Nat.{ℕ, zero, suc, _+_, _-_, _*_, _<_, _≤_}
 use mathlib.Core.Bool.{Bool, true, false, not, _&&_, false≢true}
-use mathlib.Core.List.{List, [], _∷_, _++_}
+use mathlib.Core.List.{List, [], _++_}
 use mathlib.Core.Path.{_≡_, refl, sym, ap, subst, _∙_}
 use native.Mathlib.Omega.{arith}
 use borrow.Author.Tests.{eq-eqb, ne-eqb, eqb-false, ltb-false, leb-false, not-false}
@@ -9,7 +9,7 @@ use lib.Dec.{eqb, ltb, lit≤}
 use lib.ListN.{length, take, drop, replicate, length-append, length-drop, take-append-drop}
 use lib.Seq.{getD-take, length-take-le, take-at}
 use Rattle.base.specs.Choice.{pick}
-use Rattle.base.specs.Rules.{refusal, Answer, refused, given}
+use Rattle.base.specs.Rules.{refusal, Answer, refused}
 use Rattle.base.specs.Search.{every, first, Vec}
 use Rattle.base.proofs.Search.{every-at}
 use Rattle.base.specs.Matrix.{allBelow}
@@ -25,11 +25,9 @@ use Rattle.scheme.specs.declared.Fate.{Fate}
 use Rattle.scheme.specs.declared.Fate.the-variants.{Kept, Aborted}
 use Rattle.scheme.specs.declared.Judged.{Judged}
 use Rattle.scheme.specs.declared.Judged.the-variants as judged
-use Rattle.scheme.specs.declared.Settled.{Settled}
-use Rattle.scheme.specs.declared.Settled.the-variants as settled
 use Rattle.scheme.specs.declared.Params.{Params}
 use Rattle.scheme.specs.Setup.{Setup, dim, Limits, IsSetup, setupOf}
-use Rattle.scheme.specs.Answers.{paperJudgement, paperJudged, paperFate, paperSettled, accepts, rejects, kept, aborted, leftBy}
+use Rattle.scheme.specs.Answers.{paperJudgement, paperJudged, paperFate, accepts, rejects, kept, aborted, leftBy}
 use Rattle.scheme.specs.Calls.{outcomeRules, outcomeLeft}
 use Rattle.scheme.proofs.Calls.{limits-pos}
 use Rattle.scheme.specs.Dealing.{differs, judge, saidReject, isKept, outcome}
@@ -37,12 +35,11 @@ use Rattle.records.specs.declared.DealingRecord.{DealingRecord}
 use Rattle.words.specs.Words.{wordAt, wordsAt}
 use Rattle.words.proofs.Words.{length-words}
 use Rattle.records.specs.Records.{markSU, setupAt, setupSize, dealingSize, dealingAt, dealingG, dealingH, readSetupRules}
-use Rattle.records.specs.Records.{readDealingRules, readDealingCall, readDealingLeftG, readDealingLeftH}
+use Rattle.records.specs.Records.{readDealingRules}
 use Rattle.records.proofs.Calls.{passed, setup-read}
-use Rattle.records.proofs.Cases.{dealing-is, dealing-refused}
 use Rattle.received.specs.declared.Seen.{Seen}
 use Rattle.received.specs.Received.{readReceived, begin, Bounded}
-use Rattle.received.proofs.Reading.{read-inside, read-bounded, begin-bounded, part-is}
+use Rattle.received.proofs.Reading.{read-bounded, begin-bounded}
 use Rattle.file_reading.specs.declared.SetupPart.{SetupPart}
 use Rattle.file_reading.specs.declared.DealingPart.{DealingPart}
 use Rattle.file_reading.specs.declared.Reading.{Reading}
@@ -142,14 +139,10 @@ never-settled k S verdicts e = go (fateOf S verdicts) (e ∙ sym (fate-paper S v
     go Kept e = omega (arith, ap count e)
     go (Aborted j) e = omega (arith, ap count e)
 
--- so an answer that is not refused is the judgement, or the outcome
+-- so an answer that is not refused is the judgement
 pub judged-is : (S : Setup) (h values : List ℕ) (a : Judged) → paperJudged a ≡ judge S h values → a ≡ judged.As (judgementOf S h values)
 judged-is S h values (judged.As j) e = ap judged.As (judgement-is S h values j e)
 judged-is S h values (judged.Refused k) e = absurd (never-judged k S h values e)
-
-pub settled-is : (S : Setup) (verdicts : List ℕ) (a : Settled) → paperSettled a ≡ outcome S verdicts → a ≡ settled.As (fateOf S verdicts)
-settled-is S verdicts (settled.As f) e = ap settled.As (fate-is S verdicts f e)
-settled-is S verdicts (settled.Refused k) e = absurd (never-settled k S verdicts e)
 
 -- the matrix has no part in the limits and in the outcome
 pub limits-same : (s : Params) (m : List ℕ) → Limits (setupOf s m) → Limits (setupOf s [])

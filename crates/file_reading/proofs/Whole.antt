@@ -3,10 +3,10 @@
 -- whole-in-order: they break nothing
 -- file-some: a file with no refusal's number has contents
 -- file-inside: a refusal's byte stands inside the file or at its end
-use Prim.Native.Nat.{ℕ, zero, suc, _+_, _*_, _≤_, _<_}
+use Prim.Native.Nat.{ℕ, zero, suc, _+_, _≤_, _<_}
 use mathlib.Core.Bool.{Bool, true, false, _&&_}
 use mathlib.Core.List.{List}
-use mathlib.Core.Path.{_≡_, refl, sym, ap, _∙_}
+use mathlib.Core.Path.{_≡_, refl, sym, ap}
 use native.Mathlib.Omega.{arith}
 use borrow.Author.Tests.{eqb-true}
 use lib.Dec.{eqb}
@@ -16,13 +16,13 @@ use Rattle.base.specs.Choice.{pick}
 use Rattle.linear.specs.Dot.{at}
 use Rattle.scheme.specs.Setup.{Setup, dim, IsSetup}
 use Rattle.scheme.proofs.Calls.{limits-pos}
-use Rattle.words.specs.Words.{Bytes, wordAt}
+use Rattle.words.specs.Words.{Bytes}
 use Rattle.words.proofs.Words.{length-words}
 use Rattle.records.specs.declared.DealingRecord.{DealingRecord}
 use Rattle.records.specs.Records.{setupAt, setupSize, dealingSize, dealingAt, dealingG, dealingH}
 use Rattle.records.proofs.Calls.{setup-read}
 use Rattle.received.specs.declared.Seen.{Seen}
-use Rattle.received.specs.Received.{readReceived, begin, Bounded}
+use Rattle.received.specs.Received.{readReceived, begin}
 use Rattle.received.proofs.Reading.{read-inside}
 use Rattle.file_reading.specs.Contents.{Contents, InOrder, judgement, verdictOf}
 use Rattle.file_reading.specs.File.{FileRead, refusedAt, whole, numberOf, byteOf, setupFault, dealingFault, headOf, complete, lowered, contentsOf, ofContents, ofEnd, orRefused, ofReceived, ofDealing, readFile}

@@ -6,11 +6,12 @@
 -- complete: each of the first n holders has sent its record; lowered: what they sent
 -- contentsOf: the contents from what stands in SU and DL and what was received
 -- ofContents, ofEnd, ofReceived, ofDealing, readFile: what is read from the contents, from the file's end, from its PV and VD on, from its DL and its start on
--- told: the contents as the code tells them
+-- orRefused: a refusal, or what follows
 -- numberOf, byteOf: the refusal's number, 0 where there is none, and its byte
+-- eight, paramsOf, told: the contents as the code tells them
 use mathlib.Core.Bool.{Bool, not, _&&_}
 use mathlib.Core.List.{List, _++_}
-use Prim.Native.Nat.{ℕ, zero, suc, _+_, _-_, _*_}
+use Prim.Native.Nat.{ℕ, zero, suc, _+_, _-_}
 use lib.Dec.{eqb, ltb}
 use lib.ListN.{length, drop, replicate}
 use Rattle.base.specs.Choice.{pick}

@@ -6,7 +6,7 @@
 -- tellsBy: what it gives where nothing is refused
 use mathlib.Core.Path.{_≡_}
 use mathlib.Core.List.{List, []}
-use Prim.Native.Nat.{ℕ, _+_, _*_, _<_, _≤_}
+use Prim.Native.Nat.{ℕ, _+_, _*_, _<_}
 use lib.ListN.{length, take, drop}
 use Rattle.base.specs.Choice.{pick}
 use Rattle.base.specs.Search.{Vec}
@@ -14,7 +14,7 @@ use Rattle.scheme.specs.declared.Params.{Params}
 use Rattle.scheme.specs.declared.Judgement.{Judgement}
 use Rattle.scheme.specs.Setup.{Setup, dim, IsSetup, setupOf}
 use Rattle.scheme.specs.Dealing.{isKept}
-use Rattle.records.specs.Records.{setupAt, setupSize, dealingSize, dealingAt, dealingG, dealingH}
+use Rattle.records.specs.Records.{setupAt, setupSize, dealingAt, dealingG, dealingH}
 use Rattle.file_reading.specs.declared.SetupPart.{SetupPart}
 use Rattle.file_reading.specs.declared.DealingPart.{DealingPart}
 use Rattle.file_reading.specs.declared.Reading.{Reading}

@@ -13,16 +13,15 @@ use Rattle.base.specs.Search.{first}
 use Rattle.base.specs.Fill.{laid}
 use Rattle.base.proofs.Fill.{tab-is, laid-whole}
 use Rattle.scheme.specs.declared.Fate.the-variants.{Kept, Aborted}
-use Rattle.scheme.specs.Setup.{setupOf, dim}
+use Rattle.scheme.specs.Setup.{setupOf}
 use Rattle.scheme.specs.Dealing.{isKept, saidReject}
 use Rattle.report.specs.Text.{Printed}
 use Rattle.report.specs.Report.{setupLine, dealingLine, verdictLine, outcomeLine, keptLines, printed}
 use Rattle.file_reading.specs.declared.Reading.{Reading}
 use Rattle.file_reading.specs.declared.Told.{Told}
-use Rattle.file_reading.specs.Contents.{Contents, judgement, fateOf, fate, keptShares}
-use Rattle.file_reading.specs.File.{FileRead, refusedAt, whole, readFile, numberOf, byteOf, told, eight, paramsOf}
+use Rattle.file_reading.specs.Contents.{Contents, judgement, fateOf, fate}
+use Rattle.file_reading.specs.File.{FileRead, refusedAt, whole, readFile, numberOf, byteOf, told, eight}
 use Rattle.file_reading.specs.Inner.{Tells}
-use Rattle.file_reading.proofs.Steps.{not-whole, same-contents}
 use Rattle.file_reading.proofs.Whole.{HasContents, file-some, file-inside, whole-is-setup, whole-row}
 use Rattle.holder_file.specs.Text.{textOf, lineOf}
 use Rattle.holder_file.specs.Calls.{atByte, fileAnswer, fileLeft, lentFile, judged, settled, numbers}

@@ -1,4 +1,3 @@
 pub mod Calls
 pub mod ReadBack
 pub mod Exact
-pub mod Cases

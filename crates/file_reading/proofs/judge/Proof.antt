@@ -1,14 +1,13 @@
 -- What was read is in order, so the call is not refused and its answer is the judgement.
-use Prim.Native.Nat.{ℕ, _+_, _*_}
-use mathlib.Core.List.{List}
+use Prim.Native.Nat.{ℕ}
 use mathlib.Core.Path.{_≡_, refl, sym, ap, _∙_}
 use native.Mathlib.Omega.{arith}
-use lib.ListN.{length, take}
+use lib.ListN.{take}
 use lib.Seq.{length-take-le}
 use Rattle.scheme.specs.Setup.{setupOf}
 use Rattle.scheme.specs.Calls.{judgeCall}
 use Rattle.scheme.proofs.Calls.{judge-accepts}
-use Rattle.records.proofs.Calls.{matrix-small, dim-small}
+use Rattle.records.proofs.Calls.{matrix-small}
 use Rattle.file_reading.specs.Inner.{setupIn, columnIn}
 use Rattle.file_reading.proofs.Steps.{judged-is}
 use borrow.Author.Needs.{needs}

@@ -1,14 +1,14 @@
 -- Each test names the fault; where there is none the fields are those of DL.
 use Prim.Native.Nat.{ℕ, _+_, _-_, _*_, _≤_}
-use mathlib.Core.Bool.{true, false}
+use mathlib.Core.Bool.{false}
 use mathlib.Core.List.{List, []}
-use mathlib.Core.Path.{_≡_, refl, sym, ap, _∙_}
+use mathlib.Core.Path.{_≡_, sym, ap, _∙_}
 use native.Mathlib.Omega.{arith}
 use lib.ListN.{length, take, drop, length-drop}
 use Rattle.base.specs.Rules.{refusal}
 use Rattle.scheme.specs.Setup.{Setup, dim, setupOf}
 use Rattle.words.specs.Words.{wordsAt}
-use Rattle.records.specs.Records.{setupSize, dealingSize, dealingAt, dealingG, dealingH, readDealingRules}
+use Rattle.records.specs.Records.{setupSize, dealingAt, dealingG, dealingH, readDealingRules}
 use Rattle.records.proofs.Calls.{parts-room}
 use Rattle.received.proofs.Reading.{part-is}
 use Rattle.file_reading.specs.declared.DealingPart.{DealingPart}

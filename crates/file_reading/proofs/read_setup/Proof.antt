@@ -1,6 +1,6 @@
 -- Where SU is not refused it stands there whole, and the setup is the one that stands in the file.
 use Prim.Native.Nat.{ℕ, _+_, _*_}
-use mathlib.Core.Path.{_≡_, refl, sym, ap, _∙_}
+use mathlib.Core.Path.{refl, sym, ap, _∙_}
 use native.Mathlib.Omega.{arith}
 use lib.ListN.{take}
 use Rattle.scheme.specs.declared.Params.{Params}

@@ -1,15 +1,8 @@
 -- The judgement is that of the contents; the own verdict decides between refusal 13 and what the file tells.
-use Prim.Native.Nat.{_+_}
-use mathlib.Core.List.{[]}
-use mathlib.Core.Path.{_≡_, refl, sym, ap, _∙_}
-use native.Mathlib.Omega.{arith}
-use lib.ListN.{take}
-use Rattle.scheme.specs.declared.Judged.{Judged}
-use Rattle.scheme.specs.declared.Judged.the-variants as judged
-use Rattle.scheme.specs.Setup.{setupOf}
+use mathlib.Core.Path.{_≡_, sym, ap, _∙_}
 use Rattle.file_reading.specs.Contents.{judgementOf, verdictOf}
-use Rattle.file_reading.specs.File.{contentsOf, ofContents}
-use Rattle.file_reading.specs.Inner.{setupIn, rowIn, columnIn, Tells}
+use Rattle.file_reading.specs.File.{contentsOf}
+use Rattle.file_reading.specs.Inner.{setupIn, rowIn, columnIn}
 use Rattle.file_reading.proofs.Steps.{of-13, limits-same, tells-contents, never-refused, as-only, tells-at}
 use borrow.Author.Needs.{needs}
 use Rattle.file_reading.proofs.settle.Statement.{statement}

@@ -8,13 +8,10 @@ use lib.Seq.{length-take-le}
 use Rattle.base.specs.Rules.{refusal}
 use Rattle.base.specs.Search.{Vec}
 use Rattle.scheme.specs.declared.Params.{Params}
-use Rattle.scheme.specs.declared.Settled.{Settled}
-use Rattle.scheme.specs.declared.Settled.the-variants as settled
 use Rattle.scheme.specs.Setup.{Limits, setupOf}
 use Rattle.scheme.specs.Answers.{paperSettled}
 use Rattle.scheme.specs.Calls.{outcomeRules, outcomeCall, outcomeLeft}
 use Rattle.scheme.proofs.Calls.{outcome-accepts}
-use Rattle.file_reading.specs.Contents.{fateOf}
 use Rattle.file_reading.proofs.Steps.{never-settled, fate-is, shares-told, tells-same}
 use borrow.Author.Needs.{needs}
 use Rattle.file_reading.proofs.tell.Statement.{statement}

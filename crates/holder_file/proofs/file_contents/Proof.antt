@@ -1,14 +1,12 @@
 -- A refused file leaves the buffer; else the numbers fill it.
-use Prim.Native.Nat.{ℕ}
-use mathlib.Core.List.{List, []}
-use mathlib.Core.Path.{_≡_, refl, sym, ap, _∙_}
+use mathlib.Core.List.{[]}
+use mathlib.Core.Path.{refl, sym, ap, _∙_}
 use native.Mathlib.Omega.{arith}
 use borrow.Author.Tests.{ltb-false}
 use lib.ListN.{length}
 use Rattle.base.specs.Rules.{refusal, refused}
 use Rattle.scheme.proofs.Calls.{declined, unchanged, size-is}
 use Rattle.records.proofs.Calls.{accepted, written, passed}
-use Rattle.file_reading.specs.declared.Told.{Told}
 use Rattle.file_reading.specs.File.{readFile, told}
 use Rattle.holder_file.specs.Calls.{lentFile, numbers}
 use Rattle.holder_file.proofs.Laws.{refused-is, refused-answer, refused-left, whole-answer, whole-left, contents, told-is, told-fits, copied}
