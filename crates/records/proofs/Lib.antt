@@ -2,3 +2,4 @@ pub mod Calls
 pub mod ReadBack
 pub mod Exact
 pub mod Cases
+pub mod Answering
