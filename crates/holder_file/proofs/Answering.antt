@@ -1,0 +1,43 @@
+-- The calls on a holder's file answer where it is read to its end, and say so exactly where their number is 0: no file is refused by 0.
+use mathlib.Core.Path.{_≡_, refl, sym, ap, _∙_}
+use mathlib.Core.List.{List, [], _∷_}
+use Prim.Native.Nat.{ℕ, _≤_}
+use borrow.Author.Tests.{ne-eqb}
+use lib.ListN.{length}
+use Rattle.base.specs.Rules.{refusal, Answer}
+use Rattle.scheme.specs.Answers.{answerBy}
+use Rattle.scheme.specs.Answering.{Marked, Answers}
+use Rattle.scheme.proofs.Answering.{marked-by}
+use Rattle.records.proofs.Answering.{answers-by}
+use Rattle.file_reading.specs.Contents.{Contents}
+use Rattle.file_reading.specs.File.{FileRead, refusedAt, whole, readFile, numberOf}
+use Rattle.file_reading.proofs.Steps.{not-whole}
+use Rattle.file_reading.proofs.Whole.{HasContents, file-some}
+use Rattle.holder_file.specs.Text.{textOf}
+use Rattle.holder_file.specs.Calls.{fileAnswer, lentFile}
+use Rattle.holder_file.specs.Answering.{FilesMarked, FilesAnswering}
+use Rattle.holder_file.proofs.Laws.{lent-ok, whole-answer}
+
+file-marked : (values : Contents → List ℕ) (x : FileRead) → (numberOf x ≡ 0 → HasContents x) → Marked (fileAnswer values x)
+file-marked values (refusedAt k byte) some = sym (ne-eqb k 0 (λ z. let h = some z in not-whole k byte (h .contents) (h .is)))
+file-marked values (whole C) some = refl
+
+pub files-marked : FilesMarked
+files-marked =
+    record {
+      text = λ s out. marked-by (refusal (lentFile s out 256)) _ (file-marked (λ C. length (textOf C) ∷ []) (readFile s) (file-some s));
+      contents = λ s out. marked-by (refusal (lentFile s out 18)) _ (file-marked (λ C. []) (readFile s) (file-some s));
+    }
+
+file-answers : (s out : List ℕ) (n : ℕ) (values : Contents → List ℕ) (C : Contents) → length s ≤ 4096 → length out ≡ n → readFile s ≡ whole C
+    → Answers (answerBy (refusal (lentFile s out n)) (fileAnswer values (readFile s)))
+file-answers s out n values C l e w =
+    ap (λ (a : Answer). answerBy (refusal (lentFile s out n)) a .answered) (sym (whole-answer values (readFile s) C w))
+    ∙ answers-by (refusal (lentFile s out n)) (values C) (lent-ok s out n l e)
+
+pub files-answering : FilesAnswering
+files-answering =
+    record {
+      text = λ s out C l e w. file-answers s out 256 (λ C. length (textOf C) ∷ []) C l e w;
+      contents = λ s out C l e w. file-answers s out 18 (λ C. []) C l e w;
+    }
