@@ -3,12 +3,12 @@
 use mathlib.Core.Path.{_≡_, refl, sym, ap, _∙_}
 use mathlib.Core.Bool.{Bool, true, false, not, _&&_}
 use mathlib.Core.List.{List, [], _∷_, _++_}
-use Prim.Native.Nat.{ℕ, zero, suc, _+_, _*_, _≤_, _<_}
+use Prim.Native.Nat.{ℕ, _+_, _*_}
 use native.Mathlib.Omega.{arith}
 use lib.Dec.{eqb}
 use lib.ListN.{length, replicate, length-replicate}
 use borrow.Author.Tests.{eqb-true, eq-eqb, ne-eqb, lt-leb}
-use Rattle.base.specs.Rules.{Rule, _when_, refusal, Clear, Answer, given}
+use Rattle.base.specs.Rules.{Rule, refusal, Clear, Answer, given}
 use Rattle.base.proofs.Rules.{none-applies}
 use Rattle.scheme.specs.Setup.{Setup, dim, Limits, IsSetup}
 use Rattle.scheme.specs.Answers.{answerBy, leftBy}
@@ -22,7 +22,7 @@ use Rattle.records.specs.declared.PairRecord.{PairRecord}
 use Rattle.records.specs.declared.VerdictRecord.{VerdictRecord}
 use Rattle.records.specs.declared.ShareRecord.{ShareRecord}
 use Rattle.records.specs.Records.{setupWords, dealingWords, pairWords, verdictWords, shareWords, setupSize, dealingSize, room, dealingFaults, pairFaults, verdictFaults, shareFaults}
-use Rattle.records.specs.Records.{writeSetupRules, writeSetupLeft, readSetupRules, readSetupCall, readMatrixRules, readMatrixCall}
+use Rattle.records.specs.Records.{writeSetupRules, readSetupRules, readSetupCall, readMatrixRules, readMatrixCall}
 use Rattle.records.specs.Records.{writeDealingRules, readDealingRules, readDealingCall}
 use Rattle.records.specs.Records.{writePairRules, readPairRules, readPairCall, writeVerdictRules, readVerdictRules, readVerdictCall, writeShareRules, readShareRules, readShareCall}
 use Rattle.records.specs.Answering.{RecordsMarked, DealingInOrder, PairInOrder, VerdictInOrder, ShareInOrder, RecordsAnswering}
