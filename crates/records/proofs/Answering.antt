@@ -102,7 +102,7 @@ pair-clear S x w = (
 
 verdict-clear : (S : Setup) (x : VerdictRecord) → VerdictInOrder S x → Clear (verdictFaults S x)
 verdict-clear S x w =
-    (lt-leb (S .n) (x .holder) (w .holder), (ne-eqb (x .dealing) 0 (λ z. omega (arith, w .dealing, z)), (lt-leb 2 (x .verdict) (omega (arith, w .verdict)), tt)))
+    (lt-leb (S .n) (x .holder) (w .holder), (ne-eqb (x .dealing) 0 (λ z. omega (arith, w .dealing, z)), (lt-leb _ (x .verdict) (omega (arith, w .verdict)), tt)))
 
 share-clear : (S : Setup) (x : ShareRecord) → ShareInOrder S x → Clear (shareFaults S x)
 share-clear S x w =
