@@ -6,26 +6,26 @@ ghost use Rattle.field.specs.Fields.{fieldAnswer};
 ghost use Rattle.scheme.specs.Calls.{pointsCall, pointsLeft, dealCall, dealLeftG, dealLeftH, dealAllCall, dealAllLeftG, dealAllLeftH};
 ghost use Rattle.scheme.specs.Calls.{pairValueCall, judgeCall, outcomeCall, outcomeLeft, rehearseCall, combineCall};
 ghost use Rattle.scheme.specs.Calls.{determinesCall, privateCall, judgeSetCall, openCall, openLeft};
-ghost use Rattle.records.specs.Records.{writeSetupCall, writeSetupLeft, writeDealingCall, writeDealingLeft, writePairCall, writePairLeft};
-ghost use Rattle.records.specs.Records.{writeVerdictCall, writeVerdictLeft, writeShareCall, writeShareLeft};
-ghost use Rattle.records.specs.Records.{readSetupCall, readMatrixCall, readMatrixLeft, readDealingCall, readDealingLeftG, readDealingLeftH};
-ghost use Rattle.records.specs.Records.{readPairCall, readVerdictCall, readShareCall};
+ghost use Rattle.record_layouts.specs.Records.{writeSetupCall, writeSetupLeft, writeDealingCall, writeDealingLeft, writePairCall, writePairLeft};
+ghost use Rattle.record_layouts.specs.Records.{writeVerdictCall, writeVerdictLeft, writeShareCall, writeShareLeft};
+ghost use Rattle.record_layouts.specs.Records.{readSetupCall, readMatrixCall, readMatrixLeft, readDealingCall, readDealingLeftG, readDealingLeftH};
+ghost use Rattle.record_layouts.specs.Records.{readPairCall, readVerdictCall, readShareCall};
 ghost use Rattle.holder_file.specs.Calls.{fileContentsCall, fileContentsLeft, holderFileCall, holderFileLeft};
-ghost use Rattle.judging_sets.specs.Contracts.{SetBuffer};
+ghost use Rattle.set_questions.specs.Contracts.{SetBuffer};
 ghost use Rattle.c_api.specs.Exported.{setup, place, answeredPlace, refusedPlace};
 use field::Chosen;
 use field::Field;
 use holder_file::FileGiven;
 use holder_file::Printing;
-use records::DealingRead;
-use records::DealingRecord;
-use records::PairRead;
-use records::PairRecord;
-use records::SetupRead;
-use records::ShareRead;
-use records::ShareRecord;
-use records::VerdictRead;
-use records::VerdictRecord;
+use record_layouts::DealingRead;
+use record_layouts::DealingRecord;
+use record_layouts::PairRead;
+use record_layouts::PairRecord;
+use record_layouts::SetupRead;
+use record_layouts::ShareRead;
+use record_layouts::ShareRecord;
+use record_layouts::VerdictRead;
+use record_layouts::VerdictRecord;
 use scheme::Decided;
 use scheme::Fate;
 use scheme::Judged;
@@ -289,7 +289,7 @@ pub extern "C" fn mavdrusek_private(
     ensures answer { λ r. ⌜ r ≡ privateCall (setup p l e n (now (matrix .entry))) set .number ⌝ }
     ensures yes { λ r. ⌜ now (yes .exit) ≡ place 0 (privateCall (setup p l e n (now (matrix .entry))) set) (now (yes .entry)) ⌝ }
 {
-    match sets::private(Params { p, l, e, n }, matrix, set) {
+    match set_systems::private(Params { p, l, e, n }, matrix, set) {
         Decided::Yes => {
             *yes = 1;
             0
@@ -319,7 +319,7 @@ pub extern "C" fn mavdrusek_judge_set(
     ensures kind { λ r. ⌜ now (kind .exit) ≡ place 0 (judgeSetCall (setup p l e n (now (matrix .entry))) set position (now (out .entry))) (now (kind .entry)) ⌝ }
     ensures buffer { λ r. ⌜ SetBuffer (setup p l e n (now (matrix .entry))) set position (now (out .entry)) (judgeSetCall (setup p l e n (now (matrix .entry))) set position (now (out .entry))) (now (out .exit)) ⌝ }
 {
-    match judging_sets::judge_set(Params { p, l, e, n }, matrix, set, position, out) {
+    match set_questions::judge_set(Params { p, l, e, n }, matrix, set, position, out) {
         SetJudged::Row => {
             *kind = 1;
             0
@@ -378,7 +378,7 @@ pub extern "C" fn mavdrusek_write_setup(
     ensures answer { λ r. ⌜ r ≡ writeSetupCall (setup p l e n (now (matrix .entry))) (now (out .entry)) .number ⌝ }
     ensures buffer { λ r. ⌜ now (out .exit) ≡ writeSetupLeft (setup p l e n (now (matrix .entry))) (now (out .entry)) ⌝ }
 {
-    scheme::declined(writing::write_setup(Params { p, l, e, n }, matrix, out))
+    scheme::declined(record_writing::write_setup(Params { p, l, e, n }, matrix, out))
 }
 
 // Writes a DL.
@@ -398,7 +398,7 @@ pub extern "C" fn mavdrusek_write_dealing(
     ensures buffer { λ r. ⌜ now (out .exit) ≡ writeDealingLeft (setup p l e n []) (record { dealing = dealing; holder = holder }) (now (g .entry)) (now (h .entry)) (now (out .entry)) ⌝ }
 {
     let s = Params { p, l, e, n };
-    scheme::declined(writing::write_dealing(s, DealingRecord { dealing, holder }, g, h, out))
+    scheme::declined(record_writing::write_dealing(s, DealingRecord { dealing, holder }, g, h, out))
 }
 
 // Writes a PV.
@@ -423,7 +423,7 @@ pub extern "C" fn mavdrusek_write_pair_value(
         receiver,
         value,
     };
-    scheme::declined(writing::write_pair_value(Params { p, l, e, n }, x, out))
+    scheme::declined(record_writing::write_pair_value(Params { p, l, e, n }, x, out))
 }
 
 // Writes a VD.
@@ -446,7 +446,7 @@ pub extern "C" fn mavdrusek_write_verdict(
         holder,
         verdict,
     };
-    scheme::declined(writing::write_verdict(Params { p, l, e, n }, x, out))
+    scheme::declined(record_writing::write_verdict(Params { p, l, e, n }, x, out))
 }
 
 // Writes an SH.
@@ -471,7 +471,7 @@ pub extern "C" fn mavdrusek_write_share(
         column,
         value,
     };
-    scheme::declined(writing::write_share(Params { p, l, e, n }, x, out))
+    scheme::declined(record_writing::write_share(Params { p, l, e, n }, x, out))
 }
 
 // READING RECORDS
@@ -490,7 +490,7 @@ pub extern "C" fn mavdrusek_read_setup_head(
     ensures e { λ r. ⌜ now (e .exit) ≡ place 2 (readSetupCall (now (part .entry))) (now (e .entry)) ⌝ }
     ensures n { λ r. ⌜ now (n .exit) ≡ place 3 (readSetupCall (now (part .entry))) (now (n .entry)) ⌝ }
 {
-    match reading::read_setup_head(part) {
+    match record_reading::read_setup_head(part) {
         SetupRead::Is(s) => {
             *p = s.p;
             *l = s.l;
@@ -508,7 +508,7 @@ pub extern "C" fn mavdrusek_read_setup_matrix(part: &[u8], matrix: &mut [u16]) -
     ensures answer { λ r. ⌜ r ≡ readMatrixCall (now (part .entry)) (now (matrix .entry)) .number ⌝ }
     ensures buffer { λ r. ⌜ now (matrix .exit) ≡ readMatrixLeft (now (part .entry)) (now (matrix .entry)) ⌝ }
 {
-    scheme::declined(reading::read_setup_matrix(part, matrix))
+    scheme::declined(record_reading::read_setup_matrix(part, matrix))
 }
 
 // Reads a DL.
@@ -530,7 +530,7 @@ pub extern "C" fn mavdrusek_read_dealing(
     ensures row { λ r. ⌜ now (g .exit) ≡ readDealingLeftG (setup p l e n []) (now (part .entry)) (now (g .entry)) (now (h .entry)) ⌝ }
     ensures column { λ r. ⌜ now (h .exit) ≡ readDealingLeftH (setup p l e n []) (now (part .entry)) (now (g .entry)) (now (h .entry)) ⌝ }
 {
-    match reading::read_dealing(Params { p, l, e, n }, part, g, h) {
+    match record_reading::read_dealing(Params { p, l, e, n }, part, g, h) {
         DealingRead::Is(x) => {
             *dealing = x.dealing;
             *holder = x.holder;
@@ -559,7 +559,7 @@ pub extern "C" fn mavdrusek_read_pair_value(
     ensures receiver { λ r. ⌜ now (receiver .exit) ≡ place 2 (readPairCall (setup p l e n []) (now (part .entry))) (now (receiver .entry)) ⌝ }
     ensures value { λ r. ⌜ now (value .exit) ≡ place 3 (readPairCall (setup p l e n []) (now (part .entry))) (now (value .entry)) ⌝ }
 {
-    match reading::read_pair_value(Params { p, l, e, n }, part) {
+    match record_reading::read_pair_value(Params { p, l, e, n }, part) {
         PairRead::Is(x) => {
             *dealing = x.dealing;
             *sender = x.sender;
@@ -588,7 +588,7 @@ pub extern "C" fn mavdrusek_read_verdict(
     ensures holder { λ r. ⌜ now (holder .exit) ≡ place 1 (readVerdictCall (setup p l e n []) (now (part .entry))) (now (holder .entry)) ⌝ }
     ensures verdict { λ r. ⌜ now (verdict .exit) ≡ place 2 (readVerdictCall (setup p l e n []) (now (part .entry))) (now (verdict .entry)) ⌝ }
 {
-    match reading::read_verdict(Params { p, l, e, n }, part) {
+    match record_reading::read_verdict(Params { p, l, e, n }, part) {
         VerdictRead::Is(x) => {
             *dealing = x.dealing;
             *holder = x.holder;
@@ -618,7 +618,7 @@ pub extern "C" fn mavdrusek_read_share(
     ensures column { λ r. ⌜ now (column .exit) ≡ place 2 (readShareCall (setup p l e n []) (now (part .entry))) (now (column .entry)) ⌝ }
     ensures value { λ r. ⌜ now (value .exit) ≡ place 3 (readShareCall (setup p l e n []) (now (part .entry))) (now (value .entry)) ⌝ }
 {
-    match reading::read_share(Params { p, l, e, n }, part) {
+    match record_reading::read_share(Params { p, l, e, n }, part) {
         ShareRead::Is(x) => {
             *dealing = x.dealing;
             *holder = x.holder;

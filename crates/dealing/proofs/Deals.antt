@@ -10,7 +10,7 @@ use Rattle.base.specs.Matrix.{flat}
 use Rattle.base.proofs.Rules.{none-applies}
 use Rattle.base.proofs.Fill.{getD-tab, flat-at}
 use Rattle.base.proofs.Matrix.{entry-fits}
-use Rattle.linear.specs.Dot.{at}
+use Rattle.field.specs.Dot.{at}
 use Rattle.scheme.specs.Setup.{Setup, dim}
 use Rattle.scheme.specs.Dealing.{dealt, partG, partH}
 use Rattle.scheme.specs.Calls.{dealRules, dealLeftG, dealLeftH, dealAllRules, dealAllLeftG, dealAllLeftH}

@@ -14,8 +14,8 @@ use Rattle.base.proofs.Fill.{tab-ext, getD-filled, flat-at, filled-all}
 use Rattle.base.proofs.Matrix.{entry-fits, place-at}
 use Rattle.field.specs.Fields.{isField}
 use Rattle.field.proofs.Fields.{five-elim, field-five}
-use Rattle.linear.specs.Dot.{dot, along}
-use Rattle.linear.proofs.Dot.{dot-ext, dot-same, dot-comm, dot-comb-right}
+use Rattle.field.specs.Dot.{dot, along}
+use Rattle.field.proofs.Dot.{dot-ext, dot-same, dot-comm, dot-comb-right}
 use Rattle.dealing.specs.Parts.{entryG, entryH}
 use Rattle.dealing.specs.Pairs.{UpTo, pairOf, lowOf, highOf}
 use Rattle.dealing.proofs.Parts.{square-fits}

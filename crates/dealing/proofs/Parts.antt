@@ -13,8 +13,8 @@ use Rattle.base.specs.Fill.{tab, filled, laid}
 use Rattle.base.specs.Matrix.{entry, flat}
 use Rattle.base.proofs.Fill.{getD-tab, tab-ext, getD-filled, flat-at, laid-filled, laid-whole, filled-all}
 use Rattle.base.proofs.Matrix.{row-fits, entry-fits, place-at}
-use Rattle.linear.specs.Dot.{at, dot, along}
-use Rattle.linear.proofs.Dot.{dot-ext, dot-same}
+use Rattle.field.specs.Dot.{at, dot, along}
+use Rattle.field.proofs.Dot.{dot-ext, dot-same}
 use Rattle.scheme.specs.Setup.{Setup, dim, row}
 use Rattle.scheme.specs.Dealing.{place, dealtEntry, dealt, partG, partH}
 use Rattle.scheme.proofs.Calls.{DealOk, limits-pos, below-vec}

@@ -8,7 +8,7 @@ use mathlib.Core.Path.{_≡_}
 use mathlib.Core.List.{List}
 use lib.ListN.{length, getD}
 use Rattle.base.specs.Matrix.{entry}
-use Rattle.linear.specs.Dot.{dot, along}
+use Rattle.field.specs.Dot.{dot, along}
 
 abbrev pub UpTo : ℕ → ℕ → List ℕ → Type 0
 UpTo c n l = (k : ℕ) → k < n → getD l k 0 ≤ c

@@ -8,7 +8,7 @@ use mathlib.Core.Path.{_≡_}
 use mathlib.Core.List.{List, []}
 use lib.ListN.{length}
 use Rattle.base.specs.Matrix.{entry}
-use Rattle.linear.specs.Dot.{dot}
+use Rattle.field.specs.Dot.{dot}
 use Rattle.scheme.specs.Setup.{Setup}
 
 unfoldable pub entryG : ℕ → ℕ → List ℕ → List ℕ → ℕ → ℕ → ℕ

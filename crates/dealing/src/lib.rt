@@ -8,7 +8,7 @@ ghost use Rattle.base.specs.Rules.{refusal, refusalFrom};
 ghost use Rattle.base.specs.Fill.{filled, laid};
 ghost use Rattle.base.specs.Matrix.{flat};
 ghost use Rattle.field.specs.Fields.{isField};
-ghost use Rattle.linear.specs.Dot.{dot, along};
+ghost use Rattle.field.specs.Dot.{dot, along};
 ghost use Rattle.scheme.specs.Setup.{setupOf};
 ghost use Rattle.scheme.specs.Answers.{paperWritten};
 ghost use Rattle.scheme.specs.Dealing.{dealtEntry};
@@ -59,7 +59,7 @@ fn write_g(p: u16, d: usize, matrix: &[u16], f: &[u16], i: usize, out: &mut [u16
 {
     let mut b = 0;
     while b < d {
-        out[at + b] = linear::dot_product(p, d, matrix, i * d, f, b, d);
+        out[at + b] = field::dot_product(p, d, matrix, i * d, f, b, d);
         b += 1;
     }
 }
@@ -71,7 +71,7 @@ fn write_h(p: u16, d: usize, matrix: &[u16], f: &[u16], i: usize, out: &mut [u16
 {
     let mut k = 0;
     while k < d {
-        out[at + k] = linear::dot_product(p, d, f, k * d, matrix, i * d, 1);
+        out[at + k] = field::dot_product(p, d, f, k * d, matrix, i * d, 1);
         k += 1;
     }
 }

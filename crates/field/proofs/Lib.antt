@@ -1,4 +1,5 @@
 pub mod Congruence
 pub mod Prime
 pub mod Fields
+pub mod Dot
 mod Table

@@ -1,2 +1,3 @@
 pub mod Prime
 pub mod Fields
+pub mod Dot

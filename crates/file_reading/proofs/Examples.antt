@@ -8,11 +8,11 @@ use Rattle.base.specs.Search.{every, first, firstFrom}
 use Rattle.base.specs.Fill.{tab, tabFrom}
 use Rattle.base.specs.Matrix.{allBelow}
 use Rattle.field.specs.Fields.{isField}
-use Rattle.linear.specs.Dot.{dot}
+use Rattle.field.specs.Dot.{dot}
 use Rattle.scheme.specs.Dealing.{expected, differs, saidReject, isKept}
 use Rattle.scheme.proofs.Cases.{ex}
-use Rattle.words.specs.Words.{bytes, wordsAt}
-use Rattle.received.specs.Received.{pairFault, verdictFault, markFault, stepPair, stepVerdict, step, readFor}
+use Rattle.record_words.specs.Words.{bytes, wordsAt}
+use Rattle.file_records.specs.Received.{pairFault, verdictFault, markFault, stepPair, stepVerdict, step, readFor}
 use Rattle.file_reading.specs.Contents.{Contents, judgementOf, fateOf, fileBytes}
 use Rattle.file_reading.specs.File.{whole, refusedAt, setupFault, dealingFault, complete, lowered, ofContents, ofEnd, ofReceived, ofDealing, readFile}
 

@@ -11,14 +11,14 @@ use lib.ListN.{length, drop, length-append, length-drop, List·getD-append}
 use lib.Seq.{drop-append-le}
 use Rattle.base.proofs.Fill.{tab-ext}
 use Rattle.scheme.specs.Setup.{Setup, dim}
-use Rattle.words.specs.Words.{wordAt, wordsAt}
-use Rattle.records.specs.declared.DealingRecord.{DealingRecord}
-use Rattle.records.specs.Records.{setupSize, dealingSize, setupAt, dealingAt, dealingG, dealingH}
-use Rattle.records.proofs.Calls.{setup-read}
-use Rattle.received.specs.declared.Head.{Head}
-use Rattle.received.specs.declared.Seen.{Seen}
-use Rattle.received.specs.Received.{Received, body, readReceived, begin}
-use Rattle.received.proofs.Order.{Among, same-received, fewer}
+use Rattle.record_words.specs.Words.{wordAt, wordsAt}
+use Rattle.record_layouts.specs.declared.DealingRecord.{DealingRecord}
+use Rattle.record_layouts.specs.Records.{setupSize, dealingSize, setupAt, dealingAt, dealingG, dealingH}
+use Rattle.record_layouts.proofs.Calls.{setup-read}
+use Rattle.file_records.specs.declared.Head.{Head}
+use Rattle.file_records.specs.declared.Seen.{Seen}
+use Rattle.file_records.specs.Received.{Received, body, readReceived, begin}
+use Rattle.file_records.proofs.Order.{Among, same-received, fewer}
 use Rattle.file_reading.specs.File.{FileRead, headOf, ofEnd, orRefused, ofReceived, dealingFault, ofDealing, setupFault, readFile}
 use Rattle.file_reading.proofs.Steps.{received-next, setup-clear}
 

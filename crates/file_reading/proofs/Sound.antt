@@ -22,7 +22,7 @@ use Rattle.base.specs.Matrix.{Below}
 use Rattle.base.proofs.Rules.{none-applies}
 use Rattle.base.proofs.Search.{every-all}
 use Rattle.base.proofs.Fill.{laid-store, laid-out, laid-in, length-tab, tab-is}
-use Rattle.linear.specs.Dot.{at}
+use Rattle.field.specs.Dot.{at}
 use Rattle.scheme.specs.declared.Judgement.the-variants.{Accept}
 use Rattle.scheme.specs.declared.Fate.the-variants.{Kept}
 use Rattle.scheme.specs.Setup.{Setup, dim}
@@ -32,18 +32,18 @@ use Rattle.scheme.specs.Demand.{Dealing, Honest}
 use Rattle.scheme.proofs.Calls.{not-refused, limits-clear, limits-pos, below-vec, elements-clear, deal-ok, judge-ok, outcome-ok}
 use Rattle.scheme.proofs.Verdicts.{kept-means}
 use Rattle.scheme.proofs.Demand.{demand3}
-use Rattle.words.specs.Words.{bytes, Bytes}
-use Rattle.words.proofs.Words.{length-bytes, word-of}
-use Rattle.records.specs.declared.DealingRecord.{DealingRecord}
-use Rattle.records.specs.declared.PairRecord.{PairRecord}
-use Rattle.records.specs.declared.VerdictRecord.{VerdictRecord}
-use Rattle.records.specs.Records.{markPV, markVD, setupWords, dealingWords, pairWords, verdictWords, setupSize, dealingSize, setupAt, dealingAt, dealingG, dealingH, readSetupRules}
-use Rattle.records.proofs.Calls.{dim-small, matrix-small}
-use Rattle.records.proofs.ReadBack.{setup-at, setup-fair, dealing-at, row-at, column-at, dealing-fair}
-use Rattle.received.specs.declared.Head.{Head}
-use Rattle.received.specs.declared.Seen.{Seen}
-use Rattle.received.specs.Received.{Received, pair, verdict, recordBytes, body, pairRules, pairFault, verdictRules, verdictFault, takePair, takeVerdict, orTake, begin, readReceived}
-use Rattle.received.proofs.Order.{give, giveAll, read-body, fewer}
+use Rattle.record_words.specs.Words.{bytes, Bytes}
+use Rattle.record_words.proofs.Words.{length-bytes, word-of}
+use Rattle.record_layouts.specs.declared.DealingRecord.{DealingRecord}
+use Rattle.record_layouts.specs.declared.PairRecord.{PairRecord}
+use Rattle.record_layouts.specs.declared.VerdictRecord.{VerdictRecord}
+use Rattle.record_layouts.specs.Records.{markPV, markVD, setupWords, dealingWords, pairWords, verdictWords, setupSize, dealingSize, setupAt, dealingAt, dealingG, dealingH, readSetupRules}
+use Rattle.record_layouts.proofs.Calls.{dim-small, matrix-small}
+use Rattle.record_layouts.proofs.ReadBack.{setup-at, setup-fair, dealing-at, row-at, column-at, dealing-fair}
+use Rattle.file_records.specs.declared.Head.{Head}
+use Rattle.file_records.specs.declared.Seen.{Seen}
+use Rattle.file_records.specs.Received.{Received, pair, verdict, recordBytes, body, pairRules, pairFault, verdictRules, verdictFault, takePair, takeVerdict, orTake, begin, readReceived}
+use Rattle.file_records.proofs.Order.{give, giveAll, read-body, fewer}
 use Rattle.file_reading.specs.Contents.{Contents, InOrder, judgement, verdictOf, pairs, verdicts, fileBytes}
 use Rattle.file_reading.specs.File.{FileRead, whole, headOf, complete, lowered, contentsOf, ofContents, readFile, setupFault, dealingFault}
 use Rattle.file_reading.specs.Sound.{ReadsBack, contentsOfRun, HonestFile, HonestFiles}

@@ -18,7 +18,7 @@ use Rattle.base.specs.Fill.{filled}
 use Rattle.base.proofs.Fill.{tab-vec, tab-is, length-filled, getD-filled}
 use Rattle.field.specs.Fields.{isField}
 use Rattle.field.proofs.Fields.{five-elim, field-five}
-use Rattle.linear.specs.Dot.{at}
+use Rattle.field.specs.Dot.{at}
 use Rattle.scheme.specs.declared.Judgement.{Judgement}
 use Rattle.scheme.specs.declared.Judgement.the-variants.{Accept, Reject}
 use Rattle.scheme.specs.declared.Fate.{Fate}
@@ -31,15 +31,15 @@ use Rattle.scheme.specs.Answers.{paperJudgement, paperJudged, paperFate, accept
 use Rattle.scheme.specs.Calls.{outcomeRules, outcomeLeft}
 use Rattle.scheme.proofs.Calls.{limits-pos}
 use Rattle.scheme.specs.Dealing.{differs, judge, saidReject, isKept, outcome}
-use Rattle.records.specs.declared.DealingRecord.{DealingRecord}
-use Rattle.words.specs.Words.{wordAt, wordsAt}
-use Rattle.words.proofs.Words.{length-words}
-use Rattle.records.specs.Records.{markSU, setupAt, setupSize, dealingSize, dealingAt, dealingG, dealingH, readSetupRules}
-use Rattle.records.specs.Records.{readDealingRules}
-use Rattle.records.proofs.Calls.{passed, setup-read}
-use Rattle.received.specs.declared.Seen.{Seen}
-use Rattle.received.specs.Received.{readReceived, begin, Bounded}
-use Rattle.received.proofs.Reading.{read-bounded, begin-bounded}
+use Rattle.record_layouts.specs.declared.DealingRecord.{DealingRecord}
+use Rattle.record_words.specs.Words.{wordAt, wordsAt}
+use Rattle.record_words.proofs.Words.{length-words}
+use Rattle.record_layouts.specs.Records.{markSU, setupAt, setupSize, dealingSize, dealingAt, dealingG, dealingH, readSetupRules}
+use Rattle.record_layouts.specs.Records.{readDealingRules}
+use Rattle.record_layouts.proofs.Calls.{passed, setup-read}
+use Rattle.file_records.specs.declared.Seen.{Seen}
+use Rattle.file_records.specs.Received.{readReceived, begin, Bounded}
+use Rattle.file_records.proofs.Reading.{read-bounded, begin-bounded}
 use Rattle.file_reading.specs.declared.SetupPart.{SetupPart}
 use Rattle.file_reading.specs.declared.DealingPart.{DealingPart}
 use Rattle.file_reading.specs.declared.Reading.{Reading}

@@ -13,17 +13,17 @@ use lib.Dec.{eqb}
 use lib.ListN.{length, getD, drop}
 use lib.Seq.{getD-drop}
 use Rattle.base.specs.Choice.{pick}
-use Rattle.linear.specs.Dot.{at}
+use Rattle.field.specs.Dot.{at}
 use Rattle.scheme.specs.Setup.{Setup, dim, IsSetup}
 use Rattle.scheme.proofs.Calls.{limits-pos}
-use Rattle.words.specs.Words.{Bytes}
-use Rattle.words.proofs.Words.{length-words}
-use Rattle.records.specs.declared.DealingRecord.{DealingRecord}
-use Rattle.records.specs.Records.{setupAt, setupSize, dealingSize, dealingAt, dealingG, dealingH}
-use Rattle.records.proofs.Calls.{setup-read}
-use Rattle.received.specs.declared.Seen.{Seen}
-use Rattle.received.specs.Received.{readReceived, begin}
-use Rattle.received.proofs.Reading.{read-inside}
+use Rattle.record_words.specs.Words.{Bytes}
+use Rattle.record_words.proofs.Words.{length-words}
+use Rattle.record_layouts.specs.declared.DealingRecord.{DealingRecord}
+use Rattle.record_layouts.specs.Records.{setupAt, setupSize, dealingSize, dealingAt, dealingG, dealingH}
+use Rattle.record_layouts.proofs.Calls.{setup-read}
+use Rattle.file_records.specs.declared.Seen.{Seen}
+use Rattle.file_records.specs.Received.{readReceived, begin}
+use Rattle.file_records.proofs.Reading.{read-inside}
 use Rattle.file_reading.specs.Contents.{Contents, InOrder, judgement, verdictOf}
 use Rattle.file_reading.specs.File.{FileRead, refusedAt, whole, numberOf, byteOf, setupFault, dealingFault, headOf, complete, lowered, contentsOf, ofContents, ofEnd, orRefused, ofReceived, ofDealing, readFile}
 use Rattle.file_reading.proofs.Steps.{not-whole, same-contents, setup-clear, deal-clear, dealing-read, both-fit, received-bounded, sent-vec}

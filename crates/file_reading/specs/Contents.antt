@@ -11,16 +11,16 @@ use lib.Dec.{ltb}
 use Rattle.base.specs.Choice.{pick}
 use Rattle.base.specs.Search.{first, Vec}
 use Rattle.base.specs.Fill.{tab}
-use Rattle.linear.specs.Dot.{at}
+use Rattle.field.specs.Dot.{at}
 use Rattle.scheme.specs.declared.Judgement.{Judgement}
 use Rattle.scheme.specs.declared.Judgement.the-variants.{Accept, Reject}
 use Rattle.scheme.specs.declared.Fate.{Fate}
 use Rattle.scheme.specs.declared.Fate.the-variants.{Kept, Aborted}
 use Rattle.scheme.specs.Setup.{Setup, dim, IsSetup}
 use Rattle.scheme.specs.Dealing.{differs, saidReject, isKept, shares}
-use Rattle.words.specs.Words.{bytes}
-use Rattle.records.specs.Records.{setupWords, dealingWords}
-use Rattle.received.specs.Received.{Received, pair, verdict, body}
+use Rattle.record_words.specs.Words.{bytes}
+use Rattle.record_layouts.specs.Records.{setupWords, dealingWords}
+use Rattle.file_records.specs.Received.{Received, pair, verdict, body}
 
 pub record Contents : Type 0 where
   pub setup : Setup

@@ -18,15 +18,15 @@ use Rattle.base.specs.Choice.{pick}
 use Rattle.base.specs.Rules.{refusal}
 use Rattle.base.specs.Search.{every}
 use Rattle.base.specs.Fill.{tab}
-use Rattle.linear.specs.Dot.{at}
+use Rattle.field.specs.Dot.{at}
 use Rattle.scheme.specs.declared.Params.{Params}
 use Rattle.scheme.specs.Setup.{Setup, dim}
-use Rattle.words.specs.Words.{wordAt}
-use Rattle.records.specs.declared.DealingRecord.{DealingRecord}
-use Rattle.records.specs.Records.{markSU, setupAt, setupSize, dealingSize, dealingAt, dealingG, dealingH, readSetupRules, readDealingRules}
-use Rattle.received.specs.declared.Head.{Head}
-use Rattle.received.specs.declared.Seen.{Seen}
-use Rattle.received.specs.Received.{readReceived}
+use Rattle.record_words.specs.Words.{wordAt}
+use Rattle.record_layouts.specs.declared.DealingRecord.{DealingRecord}
+use Rattle.record_layouts.specs.Records.{markSU, setupAt, setupSize, dealingSize, dealingAt, dealingG, dealingH, readSetupRules, readDealingRules}
+use Rattle.file_records.specs.declared.Head.{Head}
+use Rattle.file_records.specs.declared.Seen.{Seen}
+use Rattle.file_records.specs.Received.{readReceived}
 use Rattle.file_reading.specs.declared.Told.{Told}
 use Rattle.file_reading.specs.Contents.{Contents, judgement, verdictOf, fate, keptShares}
 

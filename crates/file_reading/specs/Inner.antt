@@ -14,7 +14,7 @@ use Rattle.scheme.specs.declared.Params.{Params}
 use Rattle.scheme.specs.declared.Judgement.{Judgement}
 use Rattle.scheme.specs.Setup.{Setup, dim, IsSetup, setupOf}
 use Rattle.scheme.specs.Dealing.{isKept}
-use Rattle.records.specs.Records.{setupAt, setupSize, dealingAt, dealingG, dealingH}
+use Rattle.record_layouts.specs.Records.{setupAt, setupSize, dealingAt, dealingG, dealingH}
 use Rattle.file_reading.specs.declared.SetupPart.{SetupPart}
 use Rattle.file_reading.specs.declared.DealingPart.{DealingPart}
 use Rattle.file_reading.specs.declared.Reading.{Reading}

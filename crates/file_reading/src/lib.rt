@@ -9,15 +9,15 @@ ghost use Rattle.base.specs.Rules.{refusal};
 ghost use Rattle.base.specs.Search.{Vec};
 ghost use Rattle.scheme.specs.declared.Judged.the-variants.{As};
 ghost use Rattle.scheme.specs.Setup.{Limits, setupOf};
-ghost use Rattle.words.specs.Words.{wordAt, wordsAt};
-ghost use Rattle.records.specs.Records.{markSU, setupSize, dealingSize};
-ghost use Rattle.received.specs.Received.{Bounded};
+ghost use Rattle.record_words.specs.Words.{wordAt, wordsAt};
+ghost use Rattle.record_layouts.specs.Records.{markSU, setupSize, dealingSize};
+ghost use Rattle.file_records.specs.Received.{Bounded};
 ghost use Rattle.file_reading.specs.Contents.{judgementOf, verdictOf};
 ghost use Rattle.file_reading.specs.File.{setupFault, headOf, complete, lowered, contentsOf, ofContents, ofEnd, ofReceived, readFile, refusedAt};
 ghost use Rattle.file_reading.specs.Inner.{setupIn, rowIn, columnIn, Parts, ReadsSetup, ReadsDealing, Tells, tellsBy};
-use received::Head;
-use received::Seen;
-use records::DealingRecord;
+use file_records::Head;
+use file_records::Seen;
+use record_layouts::DealingRecord;
 use scheme::Fate;
 use scheme::Judged;
 use scheme::Judgement;
@@ -88,7 +88,7 @@ fn setup_fault(file: &[u8]) -> u16
     if file.len() == 0 {
         return 11;
     }
-    reading::read_setup_refusal(file)
+    record_reading::read_setup_refusal(file)
 }
 
 // The first len words from word 5 on, then zeros.
@@ -97,7 +97,7 @@ fn matrix_at(file: &[u8], len: usize) -> [u16; 512]
     ensures { λ r. ⌜ (length r ≡ 512) × (take len r ≡ wordsAt (now (file .entry)) 5 len) ⌝ }
 {
     let mut matrix = [0u16; 512];
-    words::get_words(file, 5, &mut matrix[..len]);
+    record_words::get_words(file, 5, &mut matrix[..len]);
     matrix
 }
 
@@ -106,7 +106,7 @@ fn read_setup(file: &[u8]) -> SetupPart
     ensures { λ r. ⌜ ReadsSetup (now (file .entry)) r ⌝ }
 {
     let refusal = setup_fault(file);
-    let setup = reading::params_at(file);
+    let setup = record_reading::params_at(file);
     if refusal != 0 {
         return SetupPart {
             refusal,
@@ -129,7 +129,7 @@ fn second_setup(t: &[u8]) -> bool
     if t.len() < 2 {
         return false;
     }
-    words::word(t, 0) == 0x5553
+    record_words::word(t, 0) == 0x5553
 }
 
 // A DL that is refused.
@@ -153,7 +153,7 @@ fn part_at(t: &[u8], i: usize, d: usize) -> [u16; 16]
     ensures { λ r. ⌜ (length r ≡ 16) × (take d r ≡ wordsAt (now (t .entry)) i d) ⌝ }
 {
     let mut part = [0u16; 16];
-    words::get_words(t, i, &mut part[..d]);
+    record_words::get_words(t, i, &mut part[..d]);
     part
 }
 
@@ -170,11 +170,11 @@ fn read_dealing(s: Params, file: &[u8], at: usize) -> DealingPart
         return no_dealing(10);
     }
     let d = scheme::dim(s);
-    let refusal = reading::read_dealing_refusal(s, t, d, d);
+    let refusal = record_reading::read_dealing_refusal(s, t, d, d);
     if refusal != 0 {
         return no_dealing(refusal);
     }
-    let record = reading::dealing_at(t);
+    let record = record_reading::dealing_at(t);
     let g = part_at(t, 3, d);
     let h = part_at(t, 3 + d, d);
     DealingPart {
@@ -316,7 +316,7 @@ fn receive(su: SetupPart, dl: DealingPart, file: &[u8], at: usize) -> Reading
         dealing: x.dealing,
         holder: x.holder,
     };
-    let st = received::read_received(file, at, head);
+    let st = file_records::read_received(file, at, head);
     let k = st.refusal;
     if k != 0 {
         return refused(k, st.at);

@@ -8,7 +8,7 @@ use Rattle.base.specs.Rules.{refusal, Answer}
 use Rattle.scheme.specs.Answers.{answerBy}
 use Rattle.scheme.specs.Answering.{Marked, Answers}
 use Rattle.scheme.proofs.Answering.{marked-by}
-use Rattle.records.proofs.Answering.{answers-by}
+use Rattle.record_layouts.proofs.Answering.{answers-by}
 use Rattle.file_reading.specs.Contents.{Contents}
 use Rattle.file_reading.specs.File.{FileRead, refusedAt, whole, readFile, numberOf}
 use Rattle.file_reading.proofs.Steps.{not-whole}

@@ -12,7 +12,7 @@ use Rattle.base.specs.Rules.{refusal, given}
 use Rattle.base.proofs.Rules.{none-applies}
 use Rattle.base.specs.Sum.{sum}
 use Rattle.base.specs.Search.{first, firstFrom}
-use Rattle.linear.specs.Dot.{dot}
+use Rattle.field.specs.Dot.{dot}
 use Rattle.scheme.specs.declared.Judgement.the-variants.{Accept}
 use Rattle.scheme.specs.declared.Fate.the-variants.{Kept}
 use Rattle.scheme.specs.Answers.{paperFate}
@@ -20,10 +20,10 @@ use Rattle.scheme.specs.Setup.{Setup}
 use Rattle.scheme.specs.Dealing.{expected, differs, saidReject, isKept}
 use Rattle.scheme.specs.Demand.{Dealing, Honest}
 use Rattle.scheme.proofs.Verdicts.{kept-means}
-use Rattle.records.specs.Records.{setupAt, setupSize, dealingSize}
-use Rattle.received.specs.Received.{Received, body, readReceived}
-use Rattle.received.proofs.Order.{Among}
-use Rattle.report.specs.Report.{width, dec, setupLine, dealingLine, verdictLine, outcomeLine, shareLine, shareLines, keptLines, refusedLine, printed}
+use Rattle.record_layouts.specs.Records.{setupAt, setupSize, dealingSize}
+use Rattle.file_records.specs.Received.{Received, body, readReceived}
+use Rattle.file_records.proofs.Order.{Among}
+use Rattle.file_text.specs.Report.{width, dec, setupLine, dealingLine, verdictLine, outcomeLine, shareLine, shareLines, keptLines, refusedLine, printed}
 use Rattle.file_reading.specs.Contents.{Contents, InOrder, judgementOf, fateOf, fileBytes}
 use Rattle.file_reading.specs.Sound.{contentsOfRun}
 use Rattle.file_reading.proofs.Steps.{fate-paper}

@@ -15,8 +15,8 @@ use Rattle.base.proofs.Fill.{tab-is, laid-whole}
 use Rattle.scheme.specs.declared.Fate.the-variants.{Kept, Aborted}
 use Rattle.scheme.specs.Setup.{setupOf}
 use Rattle.scheme.specs.Dealing.{isKept, saidReject}
-use Rattle.report.specs.Text.{Printed}
-use Rattle.report.specs.Report.{setupLine, dealingLine, verdictLine, outcomeLine, keptLines, printed}
+use Rattle.file_text.specs.Text.{Printed}
+use Rattle.file_text.specs.Report.{setupLine, dealingLine, verdictLine, outcomeLine, keptLines, printed}
 use Rattle.file_reading.specs.declared.Reading.{Reading}
 use Rattle.file_reading.specs.declared.Told.{Told}
 use Rattle.file_reading.specs.Contents.{Contents, judgement, fateOf, fate}

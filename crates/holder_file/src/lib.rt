@@ -5,8 +5,8 @@ ghost use Prim.Native.Nat.{ℕ, _≤_};
 ghost use lib.ListN.{length, take};
 ghost use Rattle.base.specs.Rules.{refusal};
 ghost use Rattle.scheme.specs.Setup.{setupOf};
-ghost use Rattle.report.specs.Text.{Printed};
-ghost use Rattle.report.specs.Report.{printed};
+ghost use Rattle.file_text.specs.Text.{Printed};
+ghost use Rattle.file_text.specs.Report.{printed};
 ghost use Rattle.holder_file.specs.Text.{fileText};
 ghost use Rattle.holder_file.specs.Calls.{lentFile, holderFileCall, holderFileLeft, paperPrinting, judged, settled, numbers, fileContentsCall, fileContentsLeft, paperGiven};
 use file_reading::Told;
@@ -44,7 +44,7 @@ fn print_told(t: Told, out: &mut [u8]) -> usize
     let outcome = t.outcome;
     let shares = t.shares;
     let l = s.l as usize;
-    report::report(s, t.dealing, t.holder, outcome, &shares[..l], out)
+    file_text::report(s, t.dealing, t.holder, outcome, &shares[..l], out)
 }
 
 // Prints a holder's file of at most 4,096 bytes into a lent buffer of 256.
@@ -72,8 +72,8 @@ pub fn print_file(file: &[u8], out: &mut [u8]) -> usize
 {
     match holder_file(file, out) {
         Printing::Bytes(n) => n,
-        Printing::RefusedAt(k, byte) => report::report_refusal(k, byte as u16, out),
-        Printing::Refused(k) => report::report_refusal(k, 0, out),
+        Printing::RefusedAt(k, byte) => file_text::report_refusal(k, byte as u16, out),
+        Printing::Refused(k) => file_text::report_refusal(k, 0, out),
     }
 }
 

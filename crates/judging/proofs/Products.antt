@@ -7,8 +7,8 @@ use lib.ListN.{length}
 use Rattle.base.specs.Matrix.{entry}
 use Rattle.base.proofs.Matrix.{row-fits}
 use Rattle.base.proofs.Fill.{getD-tab}
-use Rattle.linear.specs.Dot.{at, dot, along}
-use Rattle.linear.proofs.Dot.{dot-same}
+use Rattle.field.specs.Dot.{at, dot, along}
+use Rattle.field.proofs.Dot.{dot-same}
 use Rattle.scheme.specs.Setup.{Setup, dim}
 use Rattle.scheme.specs.Dealing.{pairValue, expected, part}
 

@@ -10,7 +10,7 @@ ghost use Rattle.base.specs.Rules.{refusal};
 ghost use Rattle.base.specs.Search.{first};
 ghost use Rattle.base.specs.Matrix.{entry};
 ghost use Rattle.field.specs.Fields.{isField, orderOf};
-ghost use Rattle.linear.specs.Dot.{dot};
+ghost use Rattle.field.specs.Dot.{dot};
 ghost use Rattle.scheme.specs.Setup.{setupOf};
 ghost use Rattle.scheme.specs.Answers.{paperValue, paperJudged, paperSettled, paperRehearsal};
 ghost use Rattle.scheme.specs.Dealing.{differs, saidReject, rehearse};
@@ -30,7 +30,7 @@ fn rows_product(p: u16, d: usize, u: &[u16], i: usize, v: &[u16], j: usize) -> u
     requires { ⌜ (0 < p) × (d ≤ 65536) × (i * d + d ≤ length (now u)) × (j * d + d ≤ length (now v)) ⌝ }
     ensures { λ r. ⌜ r ≡ dot d (entry d (now (u .entry)) i) (entry d (now (v .entry)) j) % p ⌝ }
 {
-    linear::dot_product(p, d, u, i * d, v, j * d, 1)
+    field::dot_product(p, d, u, i * d, v, j * d, 1)
 }
 
 // PAIR VALUE
@@ -248,7 +248,7 @@ fn combine_in(field: Field, constants: &[u16], shares: &[u16]) -> Value
     if refusal != 0 {
         return Value::Refused(refusal);
     }
-    let value = linear::dot_product(p, constants.len(), constants, 0, shares, 0, 1);
+    let value = field::dot_product(p, constants.len(), constants, 0, shares, 0, 1);
     Value::Is(value)
 }
 

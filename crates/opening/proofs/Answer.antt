@@ -17,12 +17,12 @@ use Rattle.base.specs.Fill.{tab, filled, laid}
 use Rattle.base.specs.Matrix.{entry, flat}
 use Rattle.base.proofs.Search.{first-le, first-ext, missing-all, found-there, every-at, every-all}
 use Rattle.base.proofs.Fill.{tab-ext}
-use Rattle.linear.specs.Dot.{at, dot}
-use Rattle.linear.specs.Elimination.{State, reduced, shown, fixes, flatShown, flatUnsolved, Shows, Beside, solvable, refuted, Position, fixed, free}
-use Rattle.linear.specs.Contracts.{buffers, Fits, Ready, Reduction}
-use Rattle.linear.proofs.Dot.{dot-ext, dot-same}
-use Rattle.linear.proofs.Reduced.{beside, determined, shown-small}
-use Rattle.linear.proofs.Flat.{fixes-shows, unsolved-shows, shown-shows}
+use Rattle.field.specs.Dot.{at, dot}
+use Rattle.elimination.specs.Elimination.{State, reduced, shown, fixes, flatShown, flatUnsolved, Shows, Beside, solvable, refuted, Position, fixed, free}
+use Rattle.elimination.specs.Contracts.{buffers, Fits, Ready, Reduction}
+use Rattle.field.proofs.Dot.{dot-ext, dot-same}
+use Rattle.elimination.proofs.Reduced.{beside, determined, shown-small}
+use Rattle.elimination.proofs.Flat.{fixes-shows, unsolved-shows, shown-shows}
 use Rattle.scheme.specs.Setup.{Setup, dim}
 use Rattle.scheme.specs.Answers.{undetermined, inconsistent}
 use Rattle.scheme.specs.Sets.{holds, members, hasRow, determines}
@@ -30,9 +30,9 @@ use Rattle.scheme.specs.Opening.{opening}
 use Rattle.scheme.proofs.Calls.{SetOk}
 use Rattle.scheme.proofs.Sets.{rows}
 use Rattle.scheme.proofs.Certificates.{row-in-hand, no-row, opened-by, inconsistent-in-hand}
-use Rattle.sets.specs.Contracts.{membersOf, Walked, Fresh}
-use Rattle.sets.proofs.Load.{row-part, row-last, loaded-ready, reduced-loaded}
-use Rattle.sets.proofs.Members.{prime-of, wide, narrow, entry-small, counted, listed, zeros, part-size}
+use Rattle.set_systems.specs.Contracts.{membersOf, Walked, Fresh}
+use Rattle.set_systems.proofs.Load.{row-part, row-last, loaded-ready, reduced-loaded}
+use Rattle.set_systems.proofs.Members.{prime-of, wide, narrow, entry-small, counted, listed, zeros, part-size}
 use Rattle.opening.specs.Systems as systems
 use Rattle.opening.specs.Systems.{lacking}
 use Rattle.opening.specs.Contracts.{Eliminated, OpenedAs}

@@ -9,7 +9,7 @@ use lib.ListN.{length}
 use Rattle.base.specs.Rules.{given}
 use Rattle.base.specs.Fill.{tab}
 use Rattle.base.specs.Matrix.{entry}
-use Rattle.linear.specs.Dot.{at}
+use Rattle.field.specs.Dot.{at}
 use Rattle.scheme.specs.declared.Decided.{Decided}
 use Rattle.scheme.specs.declared.Opened.{Opened}
 use Rattle.scheme.specs.Setup.{Setup}
@@ -17,7 +17,7 @@ use Rattle.scheme.specs.Answers.{yes, paperDecided, paperOpened}
 use Rattle.scheme.specs.Calls.{determinesCall, openCall, openLeft}
 use Rattle.scheme.specs.Demand.{Dealing, Honest}
 use Rattle.scheme.proofs.Demand.{demand3}
-use Rattle.sets.specs.Contracts.{membersOf}
+use Rattle.set_systems.specs.Contracts.{membersOf}
 
 abbrev pub handed : Setup → Dealing → ℕ → ℕ → List ℕ
 handed S D s b = tab (length (membersOf S s)) (λ a. at (D .shares (at (membersOf S s) a)) b)

@@ -8,14 +8,14 @@ use Prim.Native.Nat.{ℕ, _+_}
 use lib.ListN.{length}
 use Rattle.base.specs.Rules.{Answer}
 use Rattle.base.specs.Search.{first}
-use Rattle.linear.specs.Elimination.{reduced, Shows}
-use Rattle.linear.specs.Contracts.{buffers}
+use Rattle.elimination.specs.Elimination.{reduced, Shows}
+use Rattle.elimination.specs.Contracts.{buffers}
 use Rattle.scheme.specs.Setup.{Setup, dim}
 use Rattle.scheme.specs.Answers.{leftBy}
 use Rattle.scheme.specs.Sets.{holds, hasRow}
 use Rattle.scheme.specs.Opening.{opening}
 use Rattle.scheme.specs.Calls.{openAnswer}
-use Rattle.sets.specs.Contracts.{membersOf}
+use Rattle.set_systems.specs.Contracts.{membersOf}
 use Rattle.opening.specs.Systems.{beside}
 
 pub record Eliminated (S : Setup) (s : ℕ) (xs a u : List ℕ) (r : ℕ) : Type 0 where

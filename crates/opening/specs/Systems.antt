@@ -8,8 +8,8 @@ use lib.Dec.{ltb}
 use Rattle.base.specs.Choice.{pick}
 use Rattle.base.specs.Matrix.{entry}
 use Rattle.base.specs.Search.{first}
-use Rattle.linear.specs.Dot.{at}
-use Rattle.linear.specs.Elimination.{Flat, flatFixes}
+use Rattle.field.specs.Dot.{at}
+use Rattle.elimination.specs.Elimination.{Flat, flatFixes}
 
 unfoldable pub beside : ℕ → List ℕ → List ℕ → List ℕ → ℕ → ℕ → ℕ
 beside d m ms xs i j = pick (ltb j d) (entry d m (at ms i) j) (at xs i)

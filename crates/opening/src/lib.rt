@@ -7,13 +7,13 @@ ghost use Rattle.base.specs.Rules.{refusal};
 ghost use Rattle.base.specs.Search.{Vec};
 ghost use Rattle.base.specs.Fill.{tab};
 ghost use Rattle.base.specs.Matrix.{flat};
-ghost use Rattle.linear.specs.Contracts.{buffers, Fits};
+ghost use Rattle.elimination.specs.Contracts.{buffers, Fits};
 ghost use Rattle.scheme.specs.Setup.{setupOf};
 ghost use Rattle.scheme.specs.Answers.{paperOpened, paperDecided};
 ghost use Rattle.scheme.specs.Sets.{holds, members};
 ghost use Rattle.scheme.specs.Calls.{determinesCall, openRules, openCall, openLeft};
 ghost use Rattle.scheme.proofs.Calls.{SetOk, OpenOk};
-ghost use Rattle.sets.specs.Contracts.{Lie, Fresh};
+ghost use Rattle.set_systems.specs.Contracts.{Lie, Fresh};
 ghost use Rattle.opening.specs.Systems.{beside, lacking};
 ghost use Rattle.opening.specs.Contracts.{Eliminated, OpenedAs};
 use scheme::Decided;
@@ -29,7 +29,7 @@ fn load_beside(matrix: &[u16], d: usize, members: &[u16], shares: &[u16], a: &mu
 {
     let mut i = 0;
     while i < members.len() {
-        let from = sets::row_start(members, i, d);
+        let from = set_systems::row_start(members, i, d);
         let t = i * (d + 1);
         base::copy(a, t, matrix, from, d);
         a[t + d] = shares[i];
@@ -45,7 +45,7 @@ fn lacking(a: &[u16], used: &[u16], rows: usize, width: usize, d: usize, l: usiz
 {
     let mut q = 0;
     while q < l {
-        if !solving::fixes(a, used, rows, width, d, q) {
+        if !read_off::fixes(a, used, rows, width, d, q) {
             return q;
         }
         q += 1;
@@ -68,10 +68,10 @@ fn reduce_beside(
     ensures { λ r. ⌜ Eliminated (setupOf s (now (matrix .entry))) set (now (shares .entry)) (now (a .exit)) (now (used .exit)) r ⌝ }
 {
     let mut members = [0u16; 32];
-    let k = sets::walk(set, &mut members);
+    let k = set_systems::walk(set, &mut members);
     let d = scheme::dim(s);
     load_beside(matrix, d, &members[..k], shares, a);
-    linear::reduce(a, used, k, d + 1, d, s.p);
+    elimination::reduce(a, used, k, d + 1, d, s.p);
     lacking(a, used, k, d + 1, d, s.l as usize)
 }
 
@@ -81,11 +81,11 @@ fn open_refusal(s: Params, matrix: &[u16], set: u32, shares: &[u16], secrets: &[
 {
     let a = scheme::limits_refusal(s);
     let b = scheme::or_size(a, matrix.len(), scheme::matrix_len(s));
-    let c = scheme::or_size(b, shares.len(), sets::size(set));
+    let c = scheme::or_size(b, shares.len(), set_systems::size(set));
     let e = scheme::or_size(c, secrets.len(), s.l as usize);
     let f = scheme::or_elements(e, s.p, matrix);
     let g = scheme::or_elements(f, s.p, shares);
-    base::or_when(g, 5, sets::beyond(s.n, set))
+    base::or_when(g, 5, set_systems::beyond(s.n, set))
 }
 
 // Opens from inputs that are in order, in lent buffers: every share is an equation.
@@ -109,10 +109,10 @@ fn open_by(
         return Opened::Undetermined(position);
     }
     let d = scheme::dim(s);
-    if linear::unsolved(a, used, k, d + 1, d) < k {
+    if read_off::unsolved(a, used, k, d + 1, d) < k {
         return Opened::Inconsistent;
     }
-    solving::solution(a, used, k, d + 1, d, secrets);
+    read_off::solution(a, used, k, d + 1, d, secrets);
     Opened::Secrets
 }
 
@@ -144,7 +144,7 @@ pub fn open(s: Params, matrix: &[u16], set: u32, shares: &[u16], secrets: &mut [
 pub fn determines(s: Params, matrix: &[u16], set: u32) -> Decided
     ensures { λ r. ⌜ paperDecided r ≡ determinesCall (setupOf s (now (matrix .entry))) set ⌝ }
 {
-    let refusal = sets::set_refusal(s, matrix, set);
+    let refusal = set_systems::set_refusal(s, matrix, set);
     if refusal != 0 {
         return Decided::Refused(refusal);
     }
@@ -152,7 +152,7 @@ pub fn determines(s: Params, matrix: &[u16], set: u32) -> Decided
     let mut marks = [0u16; 32];
     let zeros = [0u16; 32];
     let l = s.l as usize;
-    let k = sets::size(set);
+    let k = set_systems::size(set);
     let end = k * (scheme::dim(s) + 1);
     let q = reduce_beside(
         s,

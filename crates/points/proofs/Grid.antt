@@ -18,7 +18,7 @@ use Rattle.base.proofs.Matrix.{place-at}
 use Rattle.field.proofs.Congruence.{mul-mod-mod, mod-mul-mod}
 use Rattle.field.specs.Fields.{isField}
 use Rattle.field.proofs.Fields.{field-five}
-use Rattle.linear.specs.Polynomial.{minus, basis, lagrange, point}
+use Rattle.polynomial.specs.Polynomial.{minus, basis, lagrange, point}
 use Rattle.scheme.specs.Setup.{Setup, dim, Limits}
 use Rattle.scheme.specs.Calls.{pointsRules}
 use Rattle.scheme.proofs.Calls.{limits-of, size-is}

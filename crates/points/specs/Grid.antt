@@ -12,7 +12,7 @@ use lib.ListN.{length, getD, replicate}
 use Rattle.base.specs.Fill.{filled}
 use Rattle.base.specs.Rules.{Rule}
 use Rattle.field.specs.Prime.{inverseOf}
-use Rattle.linear.specs.Polynomial.{basis, point}
+use Rattle.polynomial.specs.Polynomial.{basis, point}
 use Rattle.scheme.specs.Setup.{Setup, dim}
 use Rattle.scheme.specs.Calls.{limits, size}
 

@@ -12,7 +12,7 @@ ghost use Rattle.base.specs.Fill.{tab, filled};
 ghost use Rattle.base.specs.Matrix.{flat};
 ghost use Rattle.field.specs.Prime.{Prime, Inverses};
 ghost use Rattle.field.specs.Fields.{isField, orderOf};
-ghost use Rattle.linear.specs.Polynomial.{minus, basis, point};
+ghost use Rattle.polynomial.specs.Polynomial.{minus, basis, point};
 ghost use Rattle.scheme.specs.Setup.{setupOf};
 ghost use Rattle.scheme.specs.Answers.{answerBy, paperWritten};
 ghost use Rattle.scheme.specs.Calls.{pointsCall, pointsLeft};

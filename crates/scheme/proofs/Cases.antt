@@ -13,8 +13,8 @@ use Rattle.base.specs.Fill.{tab, tabFrom}
 use Rattle.base.specs.Matrix.{allBelow}
 use Rattle.field.specs.Prime.{inverseOf}
 use Rattle.field.specs.Fields.{isField}
-use Rattle.linear.specs.Dot.{dot}
-use Rattle.linear.specs.Polynomial.{point, lagrange, basis, minus}
+use Rattle.field.specs.Dot.{dot}
+use Rattle.polynomial.specs.Polynomial.{point, lagrange, basis, minus}
 use Rattle.scheme.specs.Setup.{Setup}
 use Rattle.scheme.specs.Points.{pointsMatrix}
 use Rattle.scheme.specs.Answers.{yes}

@@ -19,8 +19,8 @@ use Rattle.base.proofs.Sum.{sum-split, unit-same}
 use Rattle.base.proofs.Search.{every-at, every-all, first-found, first-missing, firstVec-sound, firstVec-complete, firstVec-none}
 use Rattle.base.proofs.Fill.{getD-tab, tab-vec, tab-is}
 use Rattle.field.proofs.Congruence.{cong-add}
-use Rattle.linear.specs.Dot.{at, dot, RowFor}
-use Rattle.linear.proofs.Dot.{dot-comm, dot-ext, dot-mod, dot-mod-right, dot-unit, dot-zero, dot-assoc, row-reads}
+use Rattle.field.specs.Dot.{at, dot, RowFor}
+use Rattle.field.proofs.Dot.{dot-comm, dot-ext, dot-mod, dot-mod-right, dot-unit, dot-zero, dot-assoc, row-reads}
 use Rattle.scheme.specs.Setup.{Setup, dim}
 use Rattle.scheme.specs.Answers.{isARow, isAVector, isNeither, undetermined, inconsistent}
 use Rattle.scheme.specs.Sets.{members, hasRow, hasSweep, kind, determines}

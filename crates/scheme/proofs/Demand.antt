@@ -25,8 +25,8 @@ use Rattle.base.proofs.Search.{every-at, every-all, first-is, firstVec-sound, f
 use Rattle.base.proofs.Fill.{length-tab, getD-tab, tab-is, tab-ext, tab-vec, flat-at}
 use Rattle.base.proofs.Matrix.{below-is}
 use Rattle.field.specs.Prime.{Prime}
-use Rattle.linear.specs.Dot.{at, dot}
-use Rattle.linear.proofs.Dot.{dot-comm, dot-ext, dot-mod-right, dot-assoc, row-reads}
+use Rattle.field.specs.Dot.{at, dot}
+use Rattle.field.proofs.Dot.{dot-comm, dot-ext, dot-mod-right, dot-assoc, row-reads}
 use Rattle.scheme.specs.Setup.{Setup, dim, row}
 use Rattle.scheme.specs.Answers.{accepts, kept, yes, no, inconsistent, leftBy}
 use Rattle.scheme.specs.Dealing.{place, dealtEntry, dealt, partG, partH, pairValue, expected, judge, outcome, shares}

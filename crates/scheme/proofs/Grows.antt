@@ -10,7 +10,7 @@ use Rattle.base.specs.Sum.{sum, unit}
 use Rattle.base.specs.Search.{first, First, found, missing}
 use Rattle.base.proofs.Sum.{sum-ext, sum-swap, sum-scale, sum-unit}
 use Rattle.base.proofs.Search.{first-is}
-use Rattle.linear.specs.Dot.{at, dot, RowFor}
+use Rattle.field.specs.Dot.{at, dot, RowFor}
 use Rattle.scheme.specs.Setup.{Setup, dim, row}
 use Rattle.scheme.specs.Sets.{members, rowAt, hasRow}
 use Rattle.scheme.proofs.Members.{member-at, place-of}

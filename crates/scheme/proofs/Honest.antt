@@ -9,7 +9,7 @@ use Rattle.base.specs.Rules.{refusal, given}
 use Rattle.base.specs.Search.{Vec}
 use Rattle.base.specs.Fill.{tab}
 use Rattle.base.proofs.Fill.{length-tab, getD-tab, tab-vec}
-use Rattle.linear.specs.Dot.{at}
+use Rattle.field.specs.Dot.{at}
 use Rattle.scheme.specs.Setup.{Setup, dim}
 use Rattle.scheme.specs.Answers.{yes}
 use Rattle.scheme.specs.Dealing.{partG, pairValue}

@@ -15,7 +15,7 @@ use Rattle.base.specs.Search.{every, first, firstFrom, firstOf, firstVec, Vec}
 use Rattle.base.specs.Fill.{tab, tabFrom}
 use Rattle.base.specs.Matrix.{allBelow}
 use Rattle.field.specs.Fields.{isField}
-use Rattle.linear.specs.Dot.{at, dot}
+use Rattle.field.specs.Dot.{at, dot}
 use Rattle.scheme.specs.Setup.{Setup, Limits}
 use Rattle.scheme.specs.Answers.{inconsistent}
 use Rattle.scheme.specs.Dealing.{place, dealtEntry, dealt, pairValue, expected, differs, judge, saidReject, isKept, outcome}

@@ -15,7 +15,7 @@ use lib.ListN.{length, drop, length-drop}
 use lib.Pow.{shr-shr}
 use lib.Seq.{drop-cons}
 use Rattle.base.proofs.Choice.{either}
-use Rattle.linear.specs.Dot.{at}
+use Rattle.field.specs.Dot.{at}
 use Rattle.scheme.specs.Sets.{holds, consIf, membersFrom, members}
 
 -- PLACES

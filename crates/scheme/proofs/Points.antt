@@ -9,10 +9,10 @@ use Rattle.base.specs.Matrix.{entry, flat}
 use Rattle.base.specs.Search.{Vec}
 use Rattle.base.proofs.Fill.{getD-tab, flat-at, tab-vec}
 use Rattle.field.specs.Prime.{Prime}
-use Rattle.linear.specs.Dot.{dot}
-use Rattle.linear.specs.Polynomial.{Poly, point}
-use Rattle.linear.proofs.Dot.{dot-comm, dot-ext}
-use Rattle.linear.proofs.Interpolation.{point-values, point-only, point-below}
+use Rattle.field.specs.Dot.{dot}
+use Rattle.polynomial.specs.Polynomial.{Poly, point}
+use Rattle.field.proofs.Dot.{dot-comm, dot-ext}
+use Rattle.polynomial.proofs.Interpolation.{point-values, point-only, point-below}
 use Rattle.scheme.specs.Points.{pointsMatrix}
 
 module _ (p : ℕ) (P : Prime p) (d n : ℕ) (fits : d + n ≤ p) where

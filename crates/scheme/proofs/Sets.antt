@@ -17,8 +17,8 @@ use Rattle.base.specs.Search.{every, Vec}
 use Rattle.base.proofs.Choice.{either, and-left, and-right, and-both}
 use Rattle.base.proofs.Sum.{unit-same, unit-other}
 use Rattle.base.proofs.Search.{every-at, every-all, firstVec-sound, firstVec-complete}
-use Rattle.linear.specs.Dot.{at, dot, RowFor}
-use Rattle.linear.proofs.Dot.{row-fixes}
+use Rattle.field.specs.Dot.{at, dot, RowFor}
+use Rattle.field.proofs.Dot.{row-fixes}
 use Rattle.scheme.specs.Setup.{Setup, dim, row}
 use Rattle.scheme.specs.Sets.{members, rowAt, isRow, findRow, isThere, hasRow, isSweep, findSweep, hasSweep, determines}
 use Rattle.scheme.proofs.Members.{member-at}

@@ -10,7 +10,7 @@ use Rattle.base.specs.Choice.{pick}
 use Rattle.base.specs.Rules.{Answer}
 use Rattle.base.specs.Search.{first}
 use Rattle.base.proofs.Search.{missing-all, first-missing, first-found}
-use Rattle.linear.specs.Dot.{at}
+use Rattle.field.specs.Dot.{at}
 use Rattle.scheme.specs.Setup.{Setup}
 use Rattle.scheme.specs.Answers.{accepts, rejects, kept, aborted}
 use Rattle.scheme.specs.Dealing.{expected, differs, judge, saidReject, isKept, outcome}

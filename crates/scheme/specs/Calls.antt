@@ -15,7 +15,7 @@ use Rattle.base.specs.Search.{Vec}
 use Rattle.base.specs.Fill.{tab}
 use Rattle.base.specs.Matrix.{flat, allBelow}
 use Rattle.field.specs.Fields.{isField}
-use Rattle.linear.specs.Dot.{at}
+use Rattle.field.specs.Dot.{at}
 use Rattle.scheme.specs.Setup.{Setup, dim}
 use Rattle.scheme.specs.Points.{pointsMatrix}
 use Rattle.scheme.specs.Answers.{yes, no, answerBy, leftBy, isARow, isAVector, isNeither}

@@ -17,7 +17,7 @@ use Rattle.base.specs.Rules.{Answer}
 use Rattle.base.specs.Search.{first}
 use Rattle.base.specs.Fill.{tab}
 use Rattle.base.specs.Matrix.{entry, flat}
-use Rattle.linear.specs.Dot.{at, dot}
+use Rattle.field.specs.Dot.{at, dot}
 use Rattle.scheme.specs.Setup.{Setup, dim, row}
 use Rattle.scheme.specs.Answers.{accepts, rejects, kept, aborted, fair, disagree}
 

@@ -19,7 +19,7 @@ use Rattle.base.specs.Rules.{refused, given}
 use Rattle.base.specs.Search.{Vec}
 use Rattle.base.specs.Fill.{tab}
 use Rattle.base.specs.Matrix.{entry}
-use Rattle.linear.specs.Dot.{at, dot}
+use Rattle.field.specs.Dot.{at, dot}
 use Rattle.scheme.specs.Setup.{Setup, dim, row}
 use Rattle.scheme.specs.Answers.{accepts, kept, yes, inconsistent}
 use Rattle.scheme.specs.Dealing.{dealt}

@@ -11,7 +11,7 @@ use lib.ListN.{length, take}
 use Rattle.base.specs.Choice.{pick}
 use Rattle.base.specs.Rules.{Answer, given}
 use Rattle.base.specs.Search.{every, first, firstVec}
-use Rattle.linear.specs.Dot.{at, dot}
+use Rattle.field.specs.Dot.{at, dot}
 use Rattle.scheme.specs.Setup.{Setup, dim}
 use Rattle.scheme.specs.Answers.{undetermined, inconsistent}
 use Rattle.scheme.specs.Sets.{members, rowAt, hasRow}

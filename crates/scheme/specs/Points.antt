@@ -6,7 +6,7 @@ use mathlib.Core.List.{List}
 use Prim.Native.Nat.{ℕ, _*_}
 use Rattle.base.specs.Fill.{tab}
 use Rattle.base.specs.Matrix.{flat}
-use Rattle.linear.specs.Polynomial.{point}
+use Rattle.polynomial.specs.Polynomial.{point}
 
 unfoldable pub pointsMatrix : ℕ → ℕ → ℕ → List ℕ
 pointsMatrix p d n = tab (n * d) (flat d (point p d))

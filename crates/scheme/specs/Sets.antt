@@ -16,7 +16,7 @@ use Rattle.base.specs.Choice.{pick}
 use Rattle.base.specs.Rules.{Answer}
 use Rattle.base.specs.Sum.{unit}
 use Rattle.base.specs.Search.{every, firstVec}
-use Rattle.linear.specs.Dot.{at, dot}
+use Rattle.field.specs.Dot.{at, dot}
 use Rattle.scheme.specs.Setup.{Setup, dim, row}
 use Rattle.scheme.specs.Answers.{isARow, isAVector, isNeither}
 

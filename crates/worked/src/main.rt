@@ -284,12 +284,12 @@ fn set_of_example(set: u16) {
     say(b"set");
     number(set);
     say(b" is private:");
-    decided(sets::private(example(), &[6, 2, 5, 3, 4, 4], set as u32));
+    decided(set_systems::private(example(), &[6, 2, 5, 3, 4, 4], set as u32));
     say(b"set");
     number(set);
     say(b" at position 0:");
     let mut found = [9u16; 32];
-    let answer = judging_sets::judge_set(example(), &[6, 2, 5, 3, 4, 4], set as u32, 0, &mut found);
+    let answer = set_questions::judge_set(example(), &[6, 2, 5, 3, 4, 4], set as u32, 0, &mut found);
     set_judged(answer, &found);
 }
 
@@ -299,7 +299,7 @@ fn neither(position: u16) {
     number(position);
     say(b":");
     let mut found = [9u16; 32];
-    let answer = judging_sets::judge_set(params(7, 2, 1, 1), &[1, 1, 0], 1, position, &mut found);
+    let answer = set_questions::judge_set(params(7, 2, 1, 1), &[1, 1, 0], 1, position, &mut found);
     set_judged(answer, &found);
 }
 

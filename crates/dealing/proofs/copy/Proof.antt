@@ -7,7 +7,7 @@ use borrow.Author.Needs.{needs}
 use lib.ListN.{length, length-set}
 use Rattle.base.specs.Fill.{laid}
 use Rattle.base.proofs.Fill.{laid-none, laid-store}
-use Rattle.linear.specs.Dot.{along}
+use Rattle.field.specs.Dot.{along}
 use Rattle.dealing.proofs.copy.Statement.{statement}
 use Rattle.dealing.proofs.copy.Tie as tie
 

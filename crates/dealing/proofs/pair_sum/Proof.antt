@@ -7,8 +7,8 @@ use native.Mathlib.Omega.{arith}
 use borrow.Author.Needs.{needs}
 use lib.ListN.{getD}
 use Rattle.base.specs.Sum.{sum}
-use Rattle.linear.specs.Dot.{dot, along}
-use Rattle.linear.proofs.Dot.{dot-step}
+use Rattle.field.specs.Dot.{dot, along}
+use Rattle.field.proofs.Dot.{dot-step}
 use Rattle.dealing.proofs.pair_sum.Statement.{statement}
 use Rattle.dealing.proofs.pair_sum.Tie as tie
 

@@ -7,7 +7,7 @@ use lib.Seq.{length-take-le}
 use Rattle.scheme.specs.Setup.{setupOf}
 use Rattle.scheme.specs.Calls.{judgeCall}
 use Rattle.scheme.proofs.Calls.{judge-accepts}
-use Rattle.records.proofs.Calls.{matrix-small}
+use Rattle.record_layouts.proofs.Calls.{matrix-small}
 use Rattle.file_reading.specs.Inner.{setupIn, columnIn}
 use Rattle.file_reading.proofs.Steps.{judged-is}
 use borrow.Author.Needs.{needs}

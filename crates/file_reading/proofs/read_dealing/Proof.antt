@@ -7,10 +7,10 @@ use native.Mathlib.Omega.{arith}
 use lib.ListN.{length, take, drop, length-drop}
 use Rattle.base.specs.Rules.{refusal}
 use Rattle.scheme.specs.Setup.{Setup, dim, setupOf}
-use Rattle.words.specs.Words.{wordsAt}
-use Rattle.records.specs.Records.{setupSize, dealingAt, dealingG, dealingH, readDealingRules}
-use Rattle.records.proofs.Calls.{parts-room}
-use Rattle.received.proofs.Reading.{part-is}
+use Rattle.record_words.specs.Words.{wordsAt}
+use Rattle.record_layouts.specs.Records.{setupSize, dealingAt, dealingG, dealingH, readDealingRules}
+use Rattle.record_layouts.proofs.Calls.{parts-room}
+use Rattle.file_records.proofs.Reading.{part-is}
 use Rattle.file_reading.specs.declared.DealingPart.{DealingPart}
 use Rattle.file_reading.specs.File.{dealingFault}
 use Rattle.file_reading.specs.Inner.{ReadsDealing}

@@ -1,7 +1,7 @@
 -- Each record that is refused decides; where SU and DL are in order the records behind them follow.
 use mathlib.Core.Path.{sym, _∙_}
 use native.Mathlib.Omega.{arith}
-use Rattle.records.proofs.Calls.{matrix-small, dim-small}
+use Rattle.record_layouts.proofs.Calls.{matrix-small, dim-small}
 use Rattle.file_reading.specs.Inner.{setupIn}
 use Rattle.file_reading.proofs.Steps.{file-refused, file-dealing-refused, file-next, setup-whole, parts-whole, tells-at}
 use borrow.Author.Needs.{needs}

@@ -5,9 +5,9 @@ use native.Mathlib.Omega.{arith}
 use lib.ListN.{take}
 use Rattle.scheme.specs.declared.Params.{Params}
 use Rattle.scheme.specs.Setup.{setupOf}
-use Rattle.words.specs.Words.{wordsAt}
-use Rattle.records.specs.Records.{setupAt}
-use Rattle.records.proofs.Calls.{setup-read, matrix-small}
+use Rattle.record_words.specs.Words.{wordsAt}
+use Rattle.record_layouts.specs.Records.{setupAt}
+use Rattle.record_layouts.proofs.Calls.{setup-read, matrix-small}
 use Rattle.file_reading.proofs.Steps.{setup-clear}
 use borrow.Author.Needs.{needs}
 use Rattle.file_reading.proofs.read_setup.Statement.{statement}

@@ -1,8 +1,8 @@
 -- The records are read from the byte where DL ends.
 use Prim.Native.Nat.{_+_}
 use mathlib.Core.Path.{_≡_, ap, _∙_}
-use Rattle.records.specs.Records.{setupSize, dealingSize}
-use Rattle.received.specs.Received.{readReceived}
+use Rattle.record_layouts.specs.Records.{setupSize, dealingSize}
+use Rattle.file_records.specs.Received.{readReceived}
 use Rattle.file_reading.specs.File.{headOf}
 use Rattle.file_reading.specs.Inner.{setupIn, rowIn, columnIn}
 use Rattle.file_reading.proofs.Steps.{field-le, received-refused, received-next, received-bounded, tells-at}

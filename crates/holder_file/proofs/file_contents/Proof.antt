@@ -6,7 +6,7 @@ use borrow.Author.Tests.{ltb-false}
 use lib.ListN.{length}
 use Rattle.base.specs.Rules.{refusal, refused}
 use Rattle.scheme.proofs.Calls.{declined, unchanged, size-is}
-use Rattle.records.proofs.Calls.{accepted, written, passed}
+use Rattle.record_layouts.proofs.Calls.{accepted, written, passed}
 use Rattle.file_reading.specs.File.{readFile, told}
 use Rattle.holder_file.specs.Calls.{lentFile, numbers}
 use Rattle.holder_file.proofs.Laws.{refused-is, refused-answer, refused-left, whole-answer, whole-left, contents, told-is, told-fits, copied}

@@ -8,7 +8,7 @@ use lib.Dec.{eqb}
 use lib.ListN.{length, drop}
 use Rattle.base.specs.Rules.{refusal, refused, given}
 use Rattle.scheme.proofs.Calls.{declined, unchanged}
-use Rattle.records.proofs.Calls.{accepted, written, passed}
+use Rattle.record_layouts.proofs.Calls.{accepted, written, passed}
 use Rattle.file_reading.specs.File.{readFile}
 use Rattle.holder_file.specs.Text.{textOf}
 use Rattle.holder_file.specs.Calls.{lentFile}

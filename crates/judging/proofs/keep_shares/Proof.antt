@@ -8,7 +8,7 @@ use lib.ListN.{length, take, length-set}
 use lib.Seq.{length-take-le, getD-take}
 use Rattle.base.specs.Fill.{tab, filled}
 use Rattle.base.proofs.Fill.{filled-none, filled-store, filled-whole, tab-is}
-use Rattle.linear.specs.Dot.{at}
+use Rattle.field.specs.Dot.{at}
 use Rattle.judging.proofs.keep_shares.Statement.{statement}
 use Rattle.judging.proofs.keep_shares.Tie as tie
 

@@ -2,7 +2,7 @@
 use Prim.Native.Nat.{_%_}
 use mathlib.Core.Path.{ap, _∙_}
 use borrow.Author.Needs.{needs}
-use Rattle.linear.proofs.Dot.{dot-along}
+use Rattle.field.proofs.Dot.{dot-along}
 use Rattle.judging.proofs.rows_product.Statement.{statement}
 use Rattle.judging.proofs.rows_product.Tie as tie
 

@@ -5,7 +5,7 @@ use native.Mathlib.Omega.{arith}
 use borrow.Author.Needs.{needs}
 use Rattle.scheme.proofs.Calls.{declined, set-ok}
 use Rattle.scheme.specs.Setup.{setupOf}
-use Rattle.sets.proofs.Members.{prime-of, narrow, part-size, fresh}
+use Rattle.set_systems.proofs.Members.{prime-of, narrow, part-size, fresh}
 use Rattle.opening.proofs.Answer.{room-fits, zeros-vec, determines-by, determines-not}
 use Rattle.opening.proofs.determines.Statement.{statement}
 use Rattle.opening.proofs.determines.Tie as tie

@@ -7,8 +7,8 @@ use native.Mathlib.Omega.{arith}
 use borrow.Author.Needs.{needs}
 use Rattle.base.proofs.Search.{first-stop, first-step, first-end}
 use Rattle.base.specs.Search.{firstFrom, first}
-use Rattle.linear.specs.Contracts.{buffers}
-use Rattle.linear.specs.Elimination.{flatFixes}
+use Rattle.elimination.specs.Contracts.{buffers}
+use Rattle.elimination.specs.Elimination.{flatFixes}
 use Rattle.opening.proofs.lacking.Statement.{statement}
 use Rattle.opening.proofs.lacking.Tie as tie
 

@@ -9,7 +9,7 @@ use Rattle.base.proofs.Matrix.{row-fits}
 use Rattle.base.proofs.Fill.{filled-none, length-laid}
 use Rattle.base.specs.Matrix.{flat}
 use Rattle.base.specs.Fill.{filled}
-use Rattle.sets.proofs.Load.{loaded-whole}
+use Rattle.set_systems.proofs.Load.{loaded-whole}
 use Rattle.opening.specs.Systems.{beside}
 use Rattle.opening.proofs.Answer.{beside-row}
 use Rattle.opening.proofs.load_beside.Statement.{statement}

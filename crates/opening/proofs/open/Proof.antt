@@ -8,7 +8,7 @@ use Rattle.scheme.proofs.Members.{members-le}
 use Rattle.scheme.specs.Sets.{holds}
 use Rattle.scheme.proofs.Calls.{declined, unchanged, open-ok}
 use Rattle.scheme.specs.Setup.{setupOf}
-use Rattle.sets.proofs.Members.{narrow, part-size, fresh}
+use Rattle.set_systems.proofs.Members.{narrow, part-size, fresh}
 use Rattle.opening.proofs.Answer.{room-fits}
 use Rattle.opening.proofs.open.Statement.{statement}
 use Rattle.opening.proofs.open.Tie as tie

@@ -4,7 +4,7 @@ use native.Mathlib.Omega.{arith}
 use borrow.Author.Needs.{needs}
 use lib.Seq.{length-take-le}
 use Rattle.scheme.specs.Setup.{setupOf}
-use Rattle.sets.proofs.Members.{lie}
+use Rattle.set_systems.proofs.Members.{lie}
 use Rattle.opening.proofs.Answer.{beside-ready, beside-asks, beside-fits, eliminated}
 use Rattle.opening.proofs.reduce_beside.Statement.{statement}
 use Rattle.opening.proofs.reduce_beside.Tie as tie

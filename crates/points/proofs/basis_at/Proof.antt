@@ -3,7 +3,7 @@ use Prim.Native.Nat.{_-_, _%_, _≤_}
 use mathlib.Core.Path.{_≡_, sym}
 use native.Mathlib.Nat.{mod-eq-of-lt, le-antisymm}
 use borrow.Author.Needs.{needs}
-use Rattle.linear.specs.Polynomial.{basis}
+use Rattle.polynomial.specs.Polynomial.{basis}
 use Rattle.points.proofs.Grid.{basis-none, basis-turn}
 use Rattle.points.proofs.basis_at.Statement.{statement}
 use Rattle.points.proofs.basis_at.Tie as tie

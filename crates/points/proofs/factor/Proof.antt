@@ -5,7 +5,7 @@ use native.Mathlib.Nat.{mul-le-mul, mod-eq-of-lt}
 use native.Mathlib.Omega.{arith}
 use borrow.Author.Tests.{eq-eqb, ne-eqb}
 use borrow.Author.Needs.{needs}
-use Rattle.linear.specs.Polynomial.{minus}
+use Rattle.polynomial.specs.Polynomial.{minus}
 use Rattle.points.proofs.factor.Statement.{statement}
 use Rattle.points.proofs.factor.Tie as tie
 

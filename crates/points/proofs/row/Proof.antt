@@ -7,7 +7,7 @@ use borrow.Author.Needs.{needs}
 use lib.ListN.{getD}
 use Rattle.base.specs.Fill.{filled}
 use Rattle.base.proofs.Fill.{filled-none, filled-store}
-use Rattle.linear.specs.Polynomial.{point}
+use Rattle.polynomial.specs.Polynomial.{point}
 use Rattle.points.specs.Grid.{zeros, pointsRow}
 use Rattle.points.proofs.Grid.{weights-at}
 use Rattle.points.proofs.row.Statement.{statement}

@@ -1,0 +1,4 @@
+pub mod Elimination
+pub mod Reduced
+pub mod Flat
+mod Examples

@@ -1,0 +1,40 @@
+-- What the functions of the elimination ask of their lent buffers and leave in them. Records, so that a field more moves no caller.
+-- buffers: the two lent buffers, the matrix and the marks of its rows, as one
+-- Fits: the buffers hold R rows of W entries, at most 64, and R marks
+-- Ready: besides, p is a prime and every entry is below it
+-- RowCleared, ColumnCleared, RowUsed, ColumnPassed, Reduction: what clear_row, clear_column, use_row, pass_column and reduce leave
+use Prim.Native.Nat.{ℕ, _*_, _≤_}
+use mathlib.Core.Path.{_≡_}
+use mathlib.Core.List.{List}
+use lib.ListN.{length}
+use Rattle.base.specs.Matrix.{Below}
+use Rattle.field.specs.Prime.{Prime}
+use Rattle.elimination.specs.Elimination.{clearRow, clearTo, Flat, flatUse, flatColumn, flatReduce}
+
+abbrev pub buffers : List ℕ → List ℕ → Flat
+buffers a u = record { mat = a; used = u }
+
+pub record Fits (R W : ℕ) (a u : List ℕ) : Type 0 where
+  pub size : length a ≡ R * W
+  pub marks : length u ≡ R
+  pub narrow : W ≤ 64
+
+pub record Ready (p R W : ℕ) (a u : List ℕ) : Type 0 where
+  pub fits : Fits R W a u
+  pub prime : Prime p
+  pub below : Below p a
+
+pub record RowCleared (p W k c r : ℕ) (a b : List ℕ) : Type 0 where
+  pub matrix : b ≡ clearRow p W k c r a
+
+pub record ColumnCleared (p R W k c : ℕ) (a b : List ℕ) : Type 0 where
+  pub matrix : b ≡ clearTo p W k c R a
+
+pub record RowUsed (p R W k c : ℕ) (a u b v : List ℕ) : Type 0 where
+  pub state : buffers b v ≡ flatUse p R W k c (buffers a u)
+
+pub record ColumnPassed (p R W c : ℕ) (a u b v : List ℕ) : Type 0 where
+  pub state : buffers b v ≡ flatColumn p R W c (buffers a u)
+
+pub record Reduction (p R W C : ℕ) (a u b v : List ℕ) : Type 0 where
+  pub state : buffers b v ≡ flatReduce p R W C (buffers a u)

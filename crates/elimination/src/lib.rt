@@ -1,0 +1,124 @@
+// Gauss-Jordan elimination modulo a prime on lent flat buffers. `a` holds `rows` rows of `width` entries; `used` holds, for each row, 0 or
+// one more than the column of its pivot.
+ghost use mathlib.Core.Path.{_≡_};
+ghost use Prim.Native.Nat.{_+_, _*_, _<_, _≤_};
+ghost use lib.ListN.{length};
+ghost use Rattle.base.specs.Matrix.{Below};
+ghost use Rattle.field.specs.Prime.{Inverses};
+ghost use Rattle.elimination.specs.Elimination.{flatPivot};
+ghost use Rattle.elimination.specs.Contracts.{buffers, Fits, Ready, RowCleared, ColumnCleared, RowUsed, ColumnPassed, Reduction};
+
+// Clears the entry of row r in a column by the pivot row k.
+fn clear_row(a: &mut [u16], width: usize, k: usize, col: usize, r: usize, p: u16)
+    requires { ⌜ (r * width + width ≤ length (now a)) × (k * width + width ≤ length (now a)) × (col < width) × (0 < p) ⌝ }
+    requires { ⌜ Below p (now a) ⌝ }
+    ensures { λ _. ⌜ RowCleared p width k col r (now (a .entry)) (now (a .exit)) ⌝ }
+{
+    if r == k {
+        return;
+    }
+    let t = r * width;
+    let f = a[t + col];
+    if f == 0 {
+        return;
+    }
+    row_steps::add_row(a, width, t, k * width, p - f, p);
+}
+
+// Clears a column in every row but the pivot row k, by that row.
+fn clear_column(a: &mut [u16], rows: usize, width: usize, k: usize, col: usize, p: u16)
+    requires { ⌜ (length (now a) ≡ rows * width) × (k < rows) × (col < width) × (0 < p) ⌝ }
+    requires { ⌜ Below p (now a) ⌝ }
+    ensures { λ _. ⌜ ColumnCleared p rows width k col (now (a .entry)) (now (a .exit)) ⌝ }
+{
+    let mut r = 0;
+    while r < rows {
+        clear_row(a, width, k, col, r, p);
+        r += 1;
+    }
+}
+
+// The topmost unused row with an entry in the column, or `rows`.
+pub fn find_pivot(a: &[u16], used: &[u16], rows: usize, width: usize, col: usize) -> usize
+    requires { ⌜ Fits rows width (now a) (now used) ⌝ }
+    requires { ⌜ col < width ⌝ }
+    ensures { λ r. ⌜ r ≡ flatPivot rows width col (buffers (now (a .entry)) (now (used .entry))) ⌝ }
+{
+    let mut top = 0;
+    while top < rows {
+        if used[top] == 0 {
+            if a[top * width + col] != 0 {
+                return top;
+            }
+        }
+        top += 1;
+    }
+    top
+}
+
+// The mark of a row whose pivot stands in the column.
+fn mark(col: usize) -> u16
+    requires { ⌜ col < 64 ⌝ }
+    ensures { λ r. ⌜ r ≡ col + 1 ⌝ }
+{
+    (col + 1) as u16
+}
+
+// Row k becomes the pivot row of the column.
+fn use_row(
+    table: &[u16; 257],
+    a: &mut [u16],
+    used: &mut [u16],
+    rows: usize,
+    width: usize,
+    k: usize,
+    col: usize,
+    p: u16,
+)
+    requires { ⌜ Ready p rows width (now a) (now used) ⌝ }
+    requires { ⌜ (k < rows) × (col < width) ⌝ }
+    requires { ⌜ Inverses (now table) ⌝ }
+    ensures { λ _. ⌜ RowUsed p rows width k col (now (a .entry)) (now (used .entry)) (now (a .exit)) (now (used .exit)) ⌝ }
+{
+    let t = k * width;
+    let x = a[t + col];
+    let scale = field::inverse_by(table, p, x);
+    used[k] = mark(col);
+    row_steps::scale_row(a, width, t, scale, p);
+    clear_column(a, rows, width, k, col, p);
+}
+
+// One column of the elimination.
+fn pass_column(
+    table: &[u16; 257],
+    a: &mut [u16],
+    used: &mut [u16],
+    rows: usize,
+    width: usize,
+    col: usize,
+    p: u16,
+)
+    requires { ⌜ Ready p rows width (now a) (now used) ⌝ }
+    requires { ⌜ col < width ⌝ }
+    requires { ⌜ Inverses (now table) ⌝ }
+    ensures { λ _. ⌜ ColumnPassed p rows width col (now (a .entry)) (now (used .entry)) (now (a .exit)) (now (used .exit)) ⌝ }
+{
+    let k = find_pivot(a, used, rows, width, col);
+    if k < rows {
+        use_row(table, a, used, rows, width, k, col, p);
+    }
+}
+
+// Gauss-Jordan elimination by the first `pivots` columns.
+pub fn reduce(a: &mut [u16], used: &mut [u16], rows: usize, width: usize, pivots: usize, p: u16)
+    requires { ⌜ Ready p rows width (now a) (now used) ⌝ }
+    requires { ⌜ pivots ≤ width ⌝ }
+    ensures { λ _. ⌜ Reduction p rows width pivots (now (a .entry)) (now (used .entry)) (now (a .exit)) (now (used .exit)) ⌝ }
+{
+    let table = field::inverses();
+    let mut col = 0;
+    while col < pivots {
+        pass_column(&table, a, used, rows, width, col, p);
+        col += 1;
+    }
+}

@@ -1,0 +1,61 @@
+-- The mark decides which record it is.
+use borrow.Author.Tests.{lt-ltb, le-ltb, eq-eqb, ne-eqb}
+use Rattle.file_records.specs.Received.{step}
+use borrow.Author.Needs.{needs}
+use Rattle.file_records.proofs.step.Statement.{statement}
+use Rattle.file_records.proofs.step.Tie as tie
+
+refused-requires : tie.Need-refused-requires
+refused-requires c κs = search needs
+
+returns : tie.Need-returns
+unfolding step
+returns c = simp (lt-ltb _ _ (c .before .if1 .taken)) (c .refused .ensures)
+
+word-requires : tie.Need-word-requires
+word-requires c κs = search needs
+
+step-pair-requires : tie.Need-step-pair-requires
+step-pair-requires c κs = search needs
+
+returns-2 : tie.Need-returns-2
+unfolding step
+returns-2 c =
+    let w = c .before .before in
+    simp (le-ltb _ _ (w .before .if1 .left), ← w .word .ensures, eq-eqb _ _ (c .before .if2 .taken)) (c .step-pair .ensures)
+
+step-verdict-requires : tie.Need-step-verdict-requires
+step-verdict-requires c κs = search needs
+
+returns-3 : tie.Need-returns-3
+unfolding step
+returns-3 c =
+    let w = c .before .before .before in
+    simp (le-ltb _ _ (w .before .if1 .left), ← w .word .ensures, ne-eqb _ _ (c .before .before .if2 .left), eq-eqb _ _ (c .before .if3 .taken)) (c .step-verdict .ensures)
+
+mark-fault-requires : tie.Need-mark-fault-requires
+mark-fault-requires c κs = search needs
+
+refused-requires-2 : tie.Need-refused-requires-2
+refused-requires-2 c κs = search needs
+
+returns-4 : tie.Need-returns-4
+unfolding step
+returns-4 c =
+    let w = c .before .before .before .before in
+    simp (le-ltb _ _ (w .before .if1 .left), ← w .word .ensures, ne-eqb _ _ (c .before .before .before .if2 .left), ne-eqb _ _ (c .before .before .if3 .left), ← c .before .mark-fault .ensures) (c .refused2 .ensures)
+
+pub step-spec : {M : Type 1} → statement M
+step-spec =
+    tie.close
+    (tie.spec
+    refused-requires
+    returns
+    word-requires
+    step-pair-requires
+    returns-2
+    step-verdict-requires
+    returns-3
+    mark-fault-requires
+    refused-requires-2
+    returns-4)

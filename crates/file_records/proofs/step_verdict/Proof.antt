@@ -1,0 +1,64 @@
+-- A whole record is judged by its table, and taken where nothing is faulty.
+use mathlib.Core.Path.{sym, _∙_}
+use native.Mathlib.Omega.{arith}
+use borrow.Author.Tests.{lt-ltb, eq-eqb, ne-eqb}
+use Rattle.file_records.specs.Received.{stepVerdict}
+use Rattle.file_records.proofs.Reading.{verdict-fair, verdict-given}
+use borrow.Author.Needs.{needs}
+use Rattle.file_records.proofs.step_verdict.Statement.{statement}
+use Rattle.file_records.proofs.step_verdict.Tie as tie
+
+refused-requires : tie.Need-refused-requires
+refused-requires c κs = search needs
+
+returns : tie.Need-returns
+unfolding stepVerdict
+returns c = simp (lt-ltb _ _ (c .before .if1 .taken)) (c .refused .ensures)
+
+verdict-at-requires : tie.Need-verdict-at-requires
+verdict-at-requires c κs = search needs
+
+entry-requires : tie.Need-entry-requires
+entry-requires c κs = search needs
+
+verdict-fault-requires : tie.Need-verdict-fault-requires
+verdict-fault-requires c κs = search needs
+
+take-verdict-requires : tie.Need-take-verdict-requires
+take-verdict-requires c κs =
+    let w = c .before .before .before .before .before .before in
+    let a = w .before .before .before .args in
+    let q = verdict-fair (a .h) (w .verdict-at .result) (c .before .before .entry .result) (sym (c .before .verdict-fault .ensures) ∙ c .if2 .taken) in
+    let pre = w .before .before .before .pre in
+    (omega arith, omega arith, omega arith)
+
+refused-requires-2 : tie.Need-refused-requires-2
+refused-requires-2 c κs = search needs
+
+returns-2 : tie.Need-returns-2
+returns-2 c =
+    let w = c .before .before .before .before .before .before .before in
+    c .take-verdict .ensures
+    ∙ sym (verdict-given _ _ _ _ _ _ (w .before .if1 .left) (w .verdict-at .ensures) (c .before .before .before .entry .ensures) (c .before .before .verdict-fault .ensures)
+    ∙ rw (eq-eqb _ _ (c .before .if2 .taken)))
+
+returns-3 : tie.Need-returns-3
+returns-3 c =
+    let w = c .before .before .before .before .before .before .before in
+    c .refused2 .ensures
+    ∙ sym (verdict-given _ _ _ _ _ _ (w .before .if1 .left) (w .verdict-at .ensures) (c .before .before .before .entry .ensures) (c .before .before .verdict-fault .ensures)
+    ∙ rw (ne-eqb _ _ (c .before .if2 .left)))
+
+pub step-verdict-spec : {M : Type 1} → statement M
+step-verdict-spec =
+    tie.close
+    (tie.spec
+    refused-requires
+    returns
+    verdict-at-requires
+    entry-requires
+    verdict-fault-requires
+    take-verdict-requires
+    refused-requires-2
+    returns-2
+    returns-3)

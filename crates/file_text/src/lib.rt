@@ -1,0 +1,164 @@
+// The text that the holder program prints, written into a lent buffer: words and numbers, then lines, then the two reports that callers use.
+ghost use mathlib.Core.List.{[]};
+ghost use Prim.Native.Nat.{_+_, _≤_};
+ghost use lib.ListN.{length};
+ghost use Rattle.scheme.specs.Setup.{setupOf};
+ghost use Rattle.file_text.specs.Text.{Wrote, Printed};
+ghost use Rattle.file_text.specs.Report.{dec, item, lastItem, setupLine, dealingLine, verdictLine, outcomeLine, shareLine, shareLines, keptLines, refusedLine, printed, refusedText};
+use scheme::Fate;
+use scheme::Judgement;
+use scheme::Outcome;
+use scheme::Params;
+
+// WORDS AND NUMBERS: each is put at a place, and the answer is the place after it.
+fn put_text(out: &mut [u8], at: usize, t: &[u8]) -> usize
+    requires { ⌜ at + length (now t) ≤ length (now out) ⌝ }
+    ensures { λ r. ⌜ Wrote (now (out .entry)) at (now (t .entry)) (length (now (t .entry))) (now (out .exit)) r ⌝ }
+{
+    let mut i = 0;
+    let mut k = at;
+    while i < t.len() {
+        out[k] = t[i];
+        k += 1;
+        i += 1;
+    }
+    k
+}
+
+fn put_number(out: &mut [u8], at: usize, x: u16) -> usize
+    requires { ⌜ at + 5 ≤ length (now out) ⌝ }
+    ensures { λ r. ⌜ Wrote (now (out .entry)) at (dec x) 5 (now (out .exit)) r ⌝ }
+{
+    let mut d = [0u8; 20];
+    let k = io::decimal(x as u64, &mut d);
+    put_text(out, at, &d[..k])
+}
+
+// Words and a number.
+fn put_item(out: &mut [u8], at: usize, words: &[u8], x: u16) -> usize
+    requires { ⌜ at + length (now words) + 5 ≤ length (now out) ⌝ }
+    ensures { λ r. ⌜ Wrote (now (out .entry)) at (item (now (words .entry)) x) (length (now (words .entry)) + 5) (now (out .exit)) r ⌝ }
+{
+    let k = put_text(out, at, words);
+    put_number(out, k, x)
+}
+
+// Words and a number that end a line.
+fn put_last(out: &mut [u8], at: usize, words: &[u8], x: u16) -> usize
+    requires { ⌜ at + length (now words) + 6 ≤ length (now out) ⌝ }
+    ensures { λ r. ⌜ Wrote (now (out .entry)) at (lastItem (now (words .entry)) x) (length (now (words .entry)) + 6) (now (out .exit)) r ⌝ }
+{
+    let k = put_item(out, at, words, x);
+    put_text(out, k, b"\n")
+}
+
+// THE LINES
+fn setup_line(out: &mut [u8], at: usize, s: Params) -> usize
+    requires { ⌜ at + 30 ≤ length (now out) ⌝ }
+    ensures { λ r. ⌜ Wrote (now (out .entry)) at (setupLine (s .p) (s .l) (s .e) (s .n)) 30 (now (out .exit)) r ⌝ }
+{
+    let a = put_item(out, at, b"setup ", s.p);
+    let b = put_item(out, a, b" ", s.l);
+    let c = put_item(out, b, b" ", s.e);
+    put_last(out, c, b" ", s.n)
+}
+
+fn dealing_line(out: &mut [u8], at: usize, dealing: u16, holder: u16) -> usize
+    requires { ⌜ at + 27 ≤ length (now out) ⌝ }
+    ensures { λ r. ⌜ Wrote (now (out .entry)) at (dealingLine dealing holder) 27 (now (out .exit)) r ⌝ }
+{
+    let k = put_item(out, at, b"dealing ", dealing);
+    put_last(out, k, b" holder ", holder)
+}
+
+fn verdict_line(out: &mut [u8], at: usize, judgement: Judgement) -> usize
+    requires { ⌜ at + 21 ≤ length (now out) ⌝ }
+    ensures { λ r. ⌜ Wrote (now (out .entry)) at (verdictLine judgement) 21 (now (out .exit)) r ⌝ }
+{
+    match judgement {
+        Judgement::Accept => put_text(out, at, b"verdict accept\n"),
+        Judgement::Reject(j) => put_last(out, at, b"verdict reject ", j),
+    }
+}
+
+fn outcome_line(out: &mut [u8], at: usize, fate: Fate) -> usize
+    requires { ⌜ at + 22 ≤ length (now out) ⌝ }
+    ensures { λ r. ⌜ Wrote (now (out .entry)) at (outcomeLine fate) 22 (now (out .exit)) r ⌝ }
+{
+    match fate {
+        Fate::Kept => put_text(out, at, b"outcome kept\n"),
+        Fate::Aborted(i) => put_last(out, at, b"outcome aborted ", i),
+    }
+}
+
+fn share_line(out: &mut [u8], at: usize, column: u16, value: u16) -> usize
+    requires { ⌜ at + 18 ≤ length (now out) ⌝ }
+    ensures { λ r. ⌜ Wrote (now (out .entry)) at (shareLine column value) 18 (now (out .exit)) r ⌝ }
+{
+    let k = put_item(out, at, b"share ", column);
+    put_last(out, k, b" ", value)
+}
+
+// One line per column.
+fn share_lines(out: &mut [u8], at: usize, shares: &[u16]) -> usize
+    requires { ⌜ (length (now shares) ≤ 8) × (at + 144 ≤ length (now out)) ⌝ }
+    ensures { λ r. ⌜ Wrote (now (out .entry)) at (shareLines 0 (now (shares .entry))) 144 (now (out .exit)) r ⌝ }
+{
+    let n = shares.len();
+    let mut column = 0;
+    let mut k = at;
+    while column < n {
+        k = share_line(out, k, column as u16, shares[column]);
+        column += 1;
+    }
+    k
+}
+
+// Those lines, or none if aborted.
+fn kept_lines(out: &mut [u8], at: usize, fate: Fate, shares: &[u16]) -> usize
+    requires { ⌜ (length (now shares) ≤ 8) × (at + 144 ≤ length (now out)) ⌝ }
+    ensures { λ r. ⌜ Wrote (now (out .entry)) at (keptLines fate (now (shares .entry))) 144 (now (out .exit)) r ⌝ }
+{
+    match fate {
+        Fate::Kept => share_lines(out, at, shares),
+        Fate::Aborted(_) => at,
+    }
+}
+
+fn refused_line(out: &mut [u8], at: usize, number: u16, byte: u16) -> usize
+    requires { ⌜ at + 23 ≤ length (now out) ⌝ }
+    ensures { λ r. ⌜ Wrote (now (out .entry)) at (refusedLine number byte) 23 (now (out .exit)) r ⌝ }
+{
+    let k = put_item(out, at, b"refused ", number);
+    put_last(out, k, b" at ", byte)
+}
+
+// THE TWO REPORTS
+// What is printed of a file that was read to its end, at most 244 bytes.
+pub fn report(
+    s: Params,
+    dealing: u16,
+    holder: u16,
+    outcome: Outcome,
+    shares: &[u16],
+    out: &mut [u8],
+) -> usize
+    requires { ⌜ (length (now shares) ≤ 8) × (256 ≤ length (now out)) ⌝ }
+    ensures { λ r. ⌜ Printed (now (out .entry)) (printed (setupOf s []) dealing holder (outcome .judgement) (outcome .fate) (now (shares .entry))) (now (out .exit)) r ⌝ }
+{
+    let judgement = outcome.judgement;
+    let fate = outcome.fate;
+    let a = setup_line(out, 0, s);
+    let b = dealing_line(out, a, dealing, holder);
+    let c = verdict_line(out, b, judgement);
+    let d = outcome_line(out, c, fate);
+    kept_lines(out, d, fate, shares)
+}
+
+// What is printed of a refused file.
+pub fn report_refusal(number: u16, at: u16, out: &mut [u8]) -> usize
+    requires { ⌜ 256 ≤ length (now out) ⌝ }
+    ensures { λ r. ⌜ Printed (now (out .entry)) (refusedText number at) (now (out .exit)) r ⌝ }
+{
+    refused_line(out, 0, number, at)
+}

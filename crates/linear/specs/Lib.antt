@@ -1,4 +1,0 @@
-pub mod Dot
-pub mod Elimination
-pub mod Contracts
-pub mod Polynomial

@@ -1,0 +1,1 @@
+// Polynomials modulo a prime: definitions and laws, no code.

@@ -1,0 +1,45 @@
+-- The rules of the table, in its order.
+use borrow.Author.Needs.{needs}
+use Rattle.set_questions.proofs.judge_set_refusal.Statement.{statement}
+use Rattle.set_questions.proofs.judge_set_refusal.Tie as tie
+
+limits-refusal-requires : tie.Need-limits-refusal-requires
+limits-refusal-requires c κs = search needs
+
+matrix-len-requires : tie.Need-matrix-len-requires
+matrix-len-requires c κs = search needs
+
+or-size-requires : tie.Need-or-size-requires
+or-size-requires c κs = search needs
+
+or-size-requires-2 : tie.Need-or-size-requires-2
+or-size-requires-2 c κs = search needs
+
+or-elements-requires : tie.Need-or-elements-requires
+or-elements-requires c κs = search needs
+
+beyond-requires : tie.Need-beyond-requires
+beyond-requires c κs = search needs
+
+or-when-requires : tie.Need-or-when-requires
+or-when-requires c κs = search needs
+
+or-when-requires-2 : tie.Need-or-when-requires-2
+or-when-requires-2 c κs = search needs
+
+returns : tie.Need-returns
+returns c = cc
+
+pub judge-set-refusal-spec : {M : Type 1} → statement M
+judge-set-refusal-spec =
+    tie.close
+    (tie.spec
+    limits-refusal-requires
+    matrix-len-requires
+    or-size-requires
+    or-size-requires-2
+    or-elements-requires
+    beyond-requires
+    or-when-requires
+    or-when-requires-2
+    returns)
