@@ -1,28 +1,34 @@
--- A refusal table gives the lowest number that applies: whatever applies is at least the answer (least), an answer other than 0 applies
--- (applies), and the answer 0 says that nothing does (clear).
+-- The laws of refusal tables. A table gives the lowest number that applies: whatever applies is at least the answer (least), an answer other than 0
+-- applies (applies), and the answer 0 says that nothing does (clear, none-applies). Then tables in two parts, and answers and buffers by a number.
+-- positive: the numbers of a table are above 0, in whatever order they stand
 use Prim.Native.Nat.{ℕ, zero, suc, _≤_, _<_}
 use native.Mathlib.Nat.{le-refl, le-trans, not-suc-le-zero}
 use native.Mathlib.Omega.{arith}
-use mathlib.Core.Bool.{Bool, true, false, false≢true}
-use mathlib.Core.List.{List, [], _∷_}
-use mathlib.Core.Path.{_≡_, refl, sym, _∙_}
-use lib.Dec.{leb, T, leb→le}
-use Rattle.base.specs.Rules.{Rule, _when_, orWhen, refusalFrom, refusal, rising, Rising, Applies, here, there, Clear}
+use mathlib.Core.Bool.{Bool, true, false, _&&_, false≢true}
+use mathlib.Core.List.{List, [], _∷_, _++_}
+use mathlib.Core.Path.{_≡_, refl, sym, ap, _∙_}
+use lib.Dec.{leb, ltb, T, leb→le}
+use Rattle.base.specs.Rules.{Rule, _when_, orWhen, refusalFrom, refusal, rising, Rising, Applies, here, there, Clear, Answer, refused, given, answerBy, leftBy}
 use Rattle.base.proofs.Choice.{T-left, T-right}
 
--- a number other than 0 stays
+abbrev pub positive : List Rule → Bool
+positive [] = true
+positive ((k when b) ∷ l) = ltb 0 k && positive l
+
+-- a number other than 0 stays, at one rule and to the end of a table
 pub stands : (r k : ℕ) (b : Bool) → (r ≡ 0 → ⊥) → r ≡ orWhen r k b
 stands zero k b h = absurd (h refl)
 stands (suc r) k b h = refl
 
-from-suc : (r : ℕ) (l : List Rule) → refusalFrom (suc r) l ≡ suc r
-from-suc r [] = refl
-from-suc r ((k when b) ∷ l) = from-suc r l
+pub stays : (r : ℕ) (l : List Rule) → (r ≡ 0 → ⊥) → r ≡ refusalFrom r l
+stays zero l n = absurd (n refl)
+stays (suc r) [] n = refl
+stays (suc r) ((k when b) ∷ l) n = stays (suc r) l n
 
 from-pos : (k : ℕ) (l : List Rule) → 0 < k → refusalFrom k l ≡ k
-from-pos zero l h = absurd (not-suc-le-zero h)
-from-pos (suc k) l h = from-suc k l
+from-pos k l h = sym (stays k l (λ z. omega arith))
 
+-- THE LOWEST THAT APPLIES
 -- the head of a rising table is at least the bound
 head : (b j : ℕ) (l : List Rule) → T (rising b ((j when true) ∷ l)) → b ≤ j
 head b j l h = leb→le b j (T-left (leb b j) (rising j l) h)
@@ -45,34 +51,66 @@ least-from ((j when true) ∷ l) b k p h (there w) =
 pub least : (l : List Rule) (k : ℕ) → Rising l → Applies l k → (0 < refusal l) × (refusal l ≤ k)
 least l k h a = let r = least-from l 1 k (omega arith) h a in (r .0, r .1)
 
-applies-from : (l : List Rule) (b : ℕ) → 0 < b → T (rising b l) → 0 < refusal l → Applies l (refusal l)
-applies-from [] b p h z = absurd (not-suc-le-zero z)
-applies-from ((j when true) ∷ l) b p h z =
-    let q : b ≤ j = head b j l h in
-    let y : 0 < j = omega arith in
-    rw (from-pos j l y) here
-applies-from ((j when false) ∷ l) b p h z =
-    let q : b ≤ j = head b j l h in
-    there (applies-from l j (omega arith) (T-right (leb b j) (rising j l) h) z)
+pub applies : (l : List Rule) → 0 < refusal l → Applies l (refusal l)
+applies [] z = absurd (not-suc-le-zero z)
+applies ((zero when true) ∷ l) z = there (applies l z)
+applies ((suc j when true) ∷ l) z = rw (from-pos (suc j) l (omega arith)) here
+applies ((j when false) ∷ l) z = there (applies l z)
 
-pub applies : (l : List Rule) → Rising l → 0 < refusal l → Applies l (refusal l)
-applies l h z = applies-from l 1 (omega arith) h z
-
-clear-from : (l : List Rule) (b : ℕ) → 0 < b → T (rising b l) → refusal l ≡ 0 → Clear l
-clear-from [] b p h e = tt
-clear-from ((j when true) ∷ l) b p h e =
-    let q : b ≤ j = head b j l h in
-    let y : 0 < j = omega arith in
-    absurd (omega (arith, sym (from-pos j l y) ∙ e))
-clear-from ((j when false) ∷ l) b p h e =
-    let q : b ≤ j = head b j l h in
-    (refl, clear-from l j (omega arith) (T-right (leb b j) (rising j l) h) e)
-
-pub clear : (l : List Rule) → Rising l → refusal l ≡ 0 → Clear l
-clear l h e = clear-from l 1 (omega arith) h e
+pub clear : (l : List Rule) → T (positive l) → refusal l ≡ 0 → Clear l
+clear [] t e = tt
+clear ((zero when b) ∷ l) t e = absurd t
+clear ((suc k when true) ∷ l) t e = absurd (omega (arith, stays (suc k) l (λ z. omega arith) ∙ e))
+clear ((suc k when false) ∷ l) t e = (refl, clear l (T-right (ltb 0 (suc k)) (positive l) t) e)
 
 -- where no test holds, the answer is 0
 pub none-applies : (l : List Rule) → Clear l → refusal l ≡ 0
 none-applies [] c = refl
 none-applies ((k when true) ∷ l) c = absurd (false≢true (sym (c .0)))
 none-applies ((k when false) ∷ l) c = none-applies l (c .1)
+
+-- TABLES IN TWO PARTS
+pub clear-left : (l m : List Rule) → Clear (l ++ m) → Clear l
+clear-left [] m c = tt
+clear-left ((k when b) ∷ l) m c = (c .0, clear-left l m (c .1))
+
+pub clear-right : (l m : List Rule) → Clear (l ++ m) → Clear m
+clear-right [] m c = c
+clear-right ((k when b) ∷ l) m c = clear-right l m (c .1)
+
+pub clear-both : (l m : List Rule) → Clear l → Clear m → Clear (l ++ m)
+clear-both [] m c d = d
+clear-both ((k when b) ∷ l) m c d = (c .0, clear-both l m (c .1) d)
+
+-- rules that do not hold may be passed over
+pub refusal-after : (l m : List Rule) → Clear l → refusal (l ++ m) ≡ refusal m
+refusal-after [] m c = refl
+refusal-after ((k when true) ∷ l) m c = absurd (false≢true (sym (c .0)))
+refusal-after ((k when false) ∷ l) m c = refusal-after l m (c .1)
+
+pub joined : (r : ℕ) (l m : List Rule) → refusalFrom r (l ++ m) ≡ refusalFrom (refusalFrom r l) m
+joined r [] m = refl
+joined r ((k when b) ∷ l) m = joined (orWhen r k b) l m
+
+-- ANSWERS AND BUFFERS BY A NUMBER
+-- a call that was refused, and one that was not
+pub declined : (r : ℕ) (a : Answer) → (r ≡ 0 → ⊥) → refused r ≡ answerBy r a
+declined zero a n = absurd (n refl)
+declined (suc r) a n = refl
+
+pub accepted : (r : ℕ) (a : Answer) → r ≡ 0 → a ≡ answerBy r a
+accepted zero a e = refl
+accepted (suc r) a e = absurd (omega arith)
+
+pub unchanged : (r : ℕ) (new old : List ℕ) → (r ≡ 0 → ⊥) → old ≡ leftBy r new old
+unchanged zero new old n = absurd (n refl)
+unchanged (suc r) new old n = refl
+
+pub written : (r : ℕ) (new old l : List ℕ) → r ≡ 0 → l ≡ new → l ≡ leftBy r new old
+written zero new old l e h = h
+written (suc r) new old l e h = absurd (omega arith)
+
+-- an answer with number 0 was not refused
+pub not-refused : (r : ℕ) (a : Answer) (vs : List ℕ) → answerBy r a ≡ given vs → (r ≡ 0) × (a ≡ given vs)
+not-refused zero a vs e = (refl, e)
+not-refused (suc r) a vs e = absurd (let z : _≡_ {A = ℕ} (suc r) 0 = ap (λ (b : Answer). b .number) e in omega arith)

@@ -6,6 +6,7 @@
 -- Applies: a rule of that number holds
 -- Clear: no rule of the table holds
 -- Answer: what document 01 says of an answer: whether the call answered, the refusal's number (0: none) and the values given beside it
+-- answerBy, leftBy: the answer and a lent buffer by the refusal's number: "buffers unchanged, in all rows" of the table of refusals
 use Prim.Native.Nat.{ℕ, zero, suc}
 use mathlib.Core.Bool.{Bool, true, false, _&&_}
 use mathlib.Core.List.{List, [], _∷_}
@@ -54,3 +55,11 @@ refused k = record { answered = false; number = k; values = [] }
 
 abbrev pub given : List ℕ → Answer
 given vs = record { answered = true; number = 0; values = vs }
+
+abbrev pub answerBy : ℕ → Answer → Answer
+answerBy zero a = a
+answerBy (suc k) a = refused (suc k)
+
+abbrev pub leftBy : ℕ → List ℕ → List ℕ → List ℕ
+leftBy zero new old = new
+leftBy (suc k) new old = old

@@ -19,7 +19,7 @@ use Rattle.base.specs.Rules.{refusal, Clear, Answer}
 use Rattle.base.specs.Search.{Vec}
 use Rattle.base.specs.Fill.{tab, tabFrom, laid}
 use Rattle.base.specs.Matrix.{Below}
-use Rattle.base.proofs.Rules.{none-applies}
+use Rattle.base.proofs.Rules.{none-applies, not-refused}
 use Rattle.base.proofs.Search.{every-all}
 use Rattle.base.proofs.Fill.{laid-store, laid-out, laid-in, length-tab, tab-is}
 use Rattle.field.specs.Dot.{at}
@@ -29,7 +29,7 @@ use Rattle.scheme.specs.Setup.{Setup, dim}
 use Rattle.scheme.specs.Dealing.{judge, outcome}
 use Rattle.scheme.specs.Calls.{limits, judgeRules, outcomeRules}
 use Rattle.scheme.specs.Demand.{Dealing, Honest}
-use Rattle.scheme.proofs.Calls.{not-refused, limits-clear, limits-pos, below-vec, elements-clear, deal-ok, judge-ok, outcome-ok}
+use Rattle.scheme.proofs.Calls.{limits-clear, limits-pos, below-vec, elements-clear, deal-ok, judge-ok, outcome-ok}
 use Rattle.scheme.proofs.Verdicts.{kept-means}
 use Rattle.scheme.proofs.Demand.{demand3}
 use Rattle.record_words.specs.Words.{bytes, Bytes}

@@ -9,7 +9,7 @@ use lib.Dec.{eqb, ltb, lit≤}
 use lib.ListN.{length, take, drop, replicate, length-append, length-drop, take-append-drop}
 use lib.Seq.{getD-take, length-take-le, take-at}
 use Rattle.base.specs.Choice.{pick}
-use Rattle.base.specs.Rules.{refusal, Answer, refused}
+use Rattle.base.specs.Rules.{refusal, Answer, refused, leftBy}
 use Rattle.base.specs.Search.{every, first, Vec}
 use Rattle.base.proofs.Search.{every-at}
 use Rattle.base.specs.Matrix.{allBelow}
@@ -27,7 +27,7 @@ use Rattle.scheme.specs.declared.Judged.{Judged}
 use Rattle.scheme.specs.declared.Judged.the-variants as judged
 use Rattle.scheme.specs.declared.Params.{Params}
 use Rattle.scheme.specs.Setup.{Setup, dim, Limits, IsSetup, setupOf}
-use Rattle.scheme.specs.Answers.{paperJudgement, paperJudged, paperFate, accepts, rejects, kept, aborted, leftBy}
+use Rattle.scheme.specs.Answers.{paperJudgement, paperJudged, paperFate, accepts, rejects, kept, aborted}
 use Rattle.scheme.specs.Calls.{outcomeRules, outcomeLeft}
 use Rattle.scheme.proofs.Calls.{limits-pos}
 use Rattle.scheme.specs.Dealing.{differs, judge, saidReject, isKept, outcome}
@@ -36,7 +36,8 @@ use Rattle.record_words.specs.Words.{wordAt, wordsAt}
 use Rattle.record_words.proofs.Words.{length-words}
 use Rattle.record_layouts.specs.Records.{markSU, setupAt, setupSize, dealingSize, dealingAt, dealingG, dealingH, readSetupRules}
 use Rattle.record_layouts.specs.Records.{readDealingRules}
-use Rattle.record_layouts.proofs.Calls.{passed, setup-read}
+use Rattle.base.proofs.Rules.{clear}
+use Rattle.record_layouts.proofs.Calls.{setup-read}
 use Rattle.file_records.specs.declared.Seen.{Seen}
 use Rattle.file_records.specs.Received.{readReceived, begin, Bounded}
 use Rattle.file_records.proofs.Reading.{read-bounded, begin-bounded}
@@ -228,7 +229,7 @@ both-fit a b s h k = omega (arith, length-drop a s)
 pub dealing-read : (S : Setup) (t : List ℕ) → Limits S → refusal (readDealingRules S t (dim S) (dim S)) ≡ 0
     → (wordAt t 2 < S .n) × Vec (S .p) (dim S) (dealingG S t) × Vec (S .p) (dim S) (dealingH S t) × (dealingSize S ≤ length t) × (wordAt t 1 ≡ 0 → ⊥)
 dealing-read S t L z =
-    let r = passed (readDealingRules S t (dim S) (dim S)) tt z .1 .1 .1 .1 .1 .1 in
+    let r = clear (readDealingRules S t (dim S) (dim S)) tt z .1 .1 .1 .1 .1 .1 in
     let f = r .1 .1 .1 in
     let pos = limits-pos S L in (
       leb-false (S .n) (wordAt t 2) (f .1 .1 .0),

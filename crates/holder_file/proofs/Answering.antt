@@ -4,8 +4,7 @@ use mathlib.Core.List.{List, [], _∷_}
 use Prim.Native.Nat.{ℕ, _≤_}
 use borrow.Author.Tests.{ne-eqb}
 use lib.ListN.{length}
-use Rattle.base.specs.Rules.{refusal, Answer}
-use Rattle.scheme.specs.Answers.{answerBy}
+use Rattle.base.specs.Rules.{refusal, Answer, answerBy}
 use Rattle.scheme.specs.Answering.{Marked, Answers}
 use Rattle.scheme.proofs.Answering.{marked-by}
 use Rattle.record_layouts.proofs.Answering.{answers-by}

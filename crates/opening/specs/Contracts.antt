@@ -6,12 +6,11 @@ use mathlib.Core.Bool.{not}
 use mathlib.Core.List.{List}
 use Prim.Native.Nat.{ℕ, _+_}
 use lib.ListN.{length}
-use Rattle.base.specs.Rules.{Answer}
+use Rattle.base.specs.Rules.{Answer, leftBy}
 use Rattle.base.specs.Search.{first}
 use Rattle.elimination.specs.Elimination.{reduced, Shows}
 use Rattle.elimination.specs.Contracts.{buffers}
 use Rattle.scheme.specs.Setup.{Setup, dim}
-use Rattle.scheme.specs.Answers.{leftBy}
 use Rattle.scheme.specs.Sets.{holds, hasRow}
 use Rattle.scheme.specs.Opening.{opening}
 use Rattle.scheme.specs.Calls.{openAnswer}

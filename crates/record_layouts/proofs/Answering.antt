@@ -8,13 +8,12 @@ use native.Mathlib.Omega.{arith}
 use lib.Dec.{eqb}
 use lib.ListN.{length, replicate, length-replicate}
 use borrow.Author.Tests.{eqb-true, eq-eqb, ne-eqb, lt-leb}
-use Rattle.base.specs.Rules.{Rule, refusal, Clear, Answer, given}
-use Rattle.base.proofs.Rules.{none-applies}
+use Rattle.base.specs.Rules.{Rule, refusal, Clear, Answer, given, answerBy, leftBy}
+use Rattle.base.proofs.Rules.{none-applies, clear-both, accepted, written}
 use Rattle.scheme.specs.Setup.{Setup, dim, Limits, IsSetup}
-use Rattle.scheme.specs.Answers.{answerBy, leftBy}
 use Rattle.scheme.specs.Calls.{limits, size, elements}
 use Rattle.scheme.specs.Answering.{Answers}
-use Rattle.scheme.proofs.Calls.{limits-clear, clear-both, size-clear, elements-clear}
+use Rattle.scheme.proofs.Calls.{limits-clear, size-clear, elements-clear}
 use Rattle.scheme.proofs.Answering.{marked-by}
 use Rattle.record_words.specs.Words.{bytes}
 use Rattle.record_layouts.specs.declared.DealingRecord.{DealingRecord}
@@ -26,7 +25,7 @@ use Rattle.record_layouts.specs.Records.{writeSetupRules, readSetupRules
 use Rattle.record_layouts.specs.Records.{writeDealingRules, readDealingRules, readDealingCall}
 use Rattle.record_layouts.specs.Records.{writePairRules, readPairRules, readPairCall, writeVerdictRules, readVerdictRules, readVerdictCall, writeShareRules, readShareRules, readShareCall}
 use Rattle.record_layouts.specs.Answering.{RecordsMarked, DealingInOrder, PairInOrder, VerdictInOrder, ShareInOrder, RecordsAnswering}
-use Rattle.record_layouts.proofs.Calls.{accepted, written, room-clear}
+use Rattle.record_layouts.proofs.Calls.{room-clear}
 use Rattle.record_layouts.proofs.ReadBack.{setup-back, dealing-back, pair-back, verdict-back, share-back}
 
 -- THE MARK

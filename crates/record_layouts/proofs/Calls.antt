@@ -9,13 +9,12 @@ use native.Mathlib.Nat.{mul-le-mul}
 use lib.Dec.{eqb, ltb, T}
 use lib.ListN.{length}
 use borrow.Author.Tests.{eqb-true, eq-eqb, ltb-false, not-false}
-use Rattle.base.specs.Rules.{Rule, _when_, orWhen, refusalFrom, refusal, Rising, Clear, Answer}
+use Rattle.base.specs.Rules.{Rule, _when_, orWhen, refusalFrom, refusal, Rising, Clear, Answer, answerBy, leftBy}
 use Rattle.base.specs.Matrix.{allBelow}
 use Rattle.base.proofs.Matrix.{below-by}
 use Rattle.base.proofs.Choice.{T-right}
 use Rattle.field.specs.Fields.{isField}
 use Rattle.scheme.specs.Setup.{Setup, dim, Limits, IsSetup}
-use Rattle.scheme.specs.Answers.{answerBy, leftBy}
 use Rattle.scheme.specs.Calls.{limits, elements}
 use Rattle.scheme.proofs.Calls.{inside, size-is, limits-pos}
 use Rattle.record_words.proofs.Words.{length-words}
@@ -25,50 +24,9 @@ use Rattle.record_layouts.specs.declared.VerdictRecord.{VerdictRecord}
 use Rattle.record_layouts.specs.declared.ShareRecord.{ShareRecord}
 use Rattle.record_layouts.specs.Records.{room, setupSize, dealingSize, setupAt, writeSetupRules, dueSetup, readSetupRules, readMatrixRules, writeDealingRules, dueDealing, readDealingRules, writePairRules, writeVerdictRules, writeShareRules}
 
--- a number other than 0 stays to the end of a table
-pub stays : (r : ℕ) (l : List Rule) → (r ≡ 0 → ⊥) → r ≡ refusalFrom r l
-stays zero l n = absurd (n refl)
-stays (suc r) [] n = refl
-stays (suc r) ((k when b) ∷ l) n = stays (suc r) l n
-
-abbrev pub positive : List Rule → Bool
-positive [] = true
-positive ((k when b) ∷ l) = ltb 0 k && positive l
-
-pub passed : (l : List Rule) → T (positive l) → refusal l ≡ 0 → Clear l
-passed [] t e = tt
-passed ((zero when b) ∷ l) t e = absurd t
-passed ((suc k when true) ∷ l) t e = absurd (omega (arith, stays (suc k) l (λ z. omega arith) ∙ e))
-passed ((suc k when false) ∷ l) t e = (refl, passed l (T-right (ltb 0 (suc k)) (positive l) t) e)
-
-pub clear-left : (l m : List Rule) → Clear (l ++ m) → Clear l
-clear-left [] m c = tt
-clear-left ((k when b) ∷ l) m c = (c .0, clear-left l m (c .1))
-
-pub clear-right : (l m : List Rule) → Clear (l ++ m) → Clear m
-clear-right [] m c = c
-clear-right ((k when b) ∷ l) m c = clear-right l m (c .1)
-
-pub clear-both : (l m : List Rule) → Clear l → Clear m → Clear (l ++ m)
-clear-both [] m c d = d
-clear-both ((k when b) ∷ l) m c d = (c .0, clear-both l m (c .1) d)
-
-pub joined : (r : ℕ) (l m : List Rule) → refusalFrom r (l ++ m) ≡ refusalFrom (refusalFrom r l) m
-joined r [] m = refl
-joined r ((k when b) ∷ l) m = joined (orWhen r k b) l m
-
 or-false : (r k : ℕ) → orWhen r k false ≡ r
 or-false zero k = refl
 or-false (suc r) k = refl
-
--- a call that was not refused
-pub accepted : (r : ℕ) (a : Answer) → r ≡ 0 → a ≡ answerBy r a
-accepted zero a e = refl
-accepted (suc r) a e = absurd (omega arith)
-
-pub written : (r : ℕ) (new old l : List ℕ) → r ≡ 0 → l ≡ new → l ≡ leftBy r new old
-written zero new old l e h = h
-written (suc r) new old l e h = absurd (omega arith)
 
 -- refusals 1, 2 and 3
 pub limits-are : (S : Setup) → Clear (limits S) → Limits S

@@ -8,12 +8,11 @@ use native.Mathlib.Omega.{arith}
 use lib.Dec.{ltb, T}
 use lib.ListN.{length, take, length-append}
 use borrow.Author.Tests.{eqb-true, ltb-false, not-false}
-use Rattle.base.specs.Rules.{Rule, _when_, refusal, Clear, Answer, given}
-use Rattle.base.proofs.Rules.{none-applies}
+use Rattle.base.specs.Rules.{Rule, _when_, refusal, Clear, Answer, given, answerBy, leftBy}
+use Rattle.base.proofs.Rules.{none-applies, not-refused, positive, clear, clear-left, clear-right, clear-both, accepted, written}
 use Rattle.scheme.specs.Setup.{Setup, dim}
-use Rattle.scheme.specs.Answers.{answerBy, leftBy}
 use Rattle.scheme.specs.Calls.{limits, size, elements}
-use Rattle.scheme.proofs.Calls.{not-refused, size-clear}
+use Rattle.scheme.proofs.Calls.{size-clear}
 use Rattle.record_words.specs.Words.{bytes, wordAt, Bytes}
 use Rattle.record_words.proofs.Words.{Shows, shows-append, shows-words, length-words, bytes-shown}
 use Rattle.record_layouts.specs.Records.{markSU, markDL, markPV, markVD, markSH, setupWords, dealingWords, setupSize, dealingSize}
@@ -23,7 +22,7 @@ use Rattle.record_layouts.specs.Records.{writeDealingRules, writeDealing
 use Rattle.record_layouts.specs.Records.{writePairCall, writePairLeft, pairValues, readPairCall}
 use Rattle.record_layouts.specs.Records.{writeVerdictCall, writeVerdictLeft, verdictValues, readVerdictCall}
 use Rattle.record_layouts.specs.Records.{writeShareCall, writeShareLeft, shareValues, readShareCall}
-use Rattle.record_layouts.proofs.Calls.{positive, passed, clear-left, clear-right, clear-both, accepted, written, room-clear}
+use Rattle.record_layouts.proofs.Calls.{room-clear}
 
 pub record Rewritten (answer : Answer) (left part : List ℕ) : Type 0 where
   pub accepts : answer ≡ given []
@@ -44,7 +43,7 @@ module _ {A : Type 0} (mark size : ℕ) (fields : A → List ℕ) (at : List ℕ
       (leftBy (refusal (limits S ++ room (length out) size ∷ faults S (at s))) (bytes (mark ∷ fields (at s))) out) (take size s)
   plain-exact S s out vs b k m w t e =
       let l = faults S (at s) in
-      let c = passed (limits S ++ due mark size s ++ l) t (not-refused _ _ vs e .0) in
+      let c = clear (limits S ++ due mark size s ++ l) t (not-refused _ _ vs e .0) in
       let d = clear-right (limits S) (due mark size s ++ l) c in
       let u = clear-left (due mark size s) l d in
       let z : refusal (limits S ++ room (length out) size ∷ l) ≡ 0 =
@@ -82,7 +81,7 @@ pub setup-exact : (s m out : List ℕ) → Bytes s → readMatrixCall s m ≡ gi
     → Rewritten (writeSetupCall (setupAt s) out) (writeSetupLeft (setupAt s) out) (take (setupSize (setupAt s)) s)
 setup-exact s m out b e k =
     let S : Setup = setupAt s in
-    let c = passed (readMatrixRules s (length m)) tt (not-refused _ (given []) [] e .0) in
+    let c = clear (readMatrixRules s (length m)) tt (not-refused _ (given []) [] e .0) in
     let L = clear-left (limits S) ((3 when ltb (length s) (setupSize S)) ∷ room (length m) (S .n * dim S) ∷ elements (S .p) (S .M) ∷ []) (c .1 .1 .1) in
     let r = clear-right (limits S) ((3 when ltb (length s) (setupSize S)) ∷ room (length m) (S .n * dim S) ∷ elements (S .p) (S .M) ∷ []) (c .1 .1 .1) in
     let n : length (S .M) ≡ S .n * dim S = length-words s 5 (S .n * dim S) in
@@ -107,7 +106,7 @@ dealing-exact S s g h out vs b e k =
     let H = dealingH S s in
     let x = dealingAt s in
     let own = elements (S .p) G ∷ elements (S .p) H ∷ dealingFaults S x in
-    let c = passed (readDealingRules S s (length g) (length h)) tt (not-refused _ _ vs e .0) in
+    let c = clear (readDealingRules S s (length g) (length h)) tt (not-refused _ _ vs e .0) in
     let d = c .1 .1 .1 .1 .1 .1 in
     let u = clear-left (due markDL (dealingSize S) s) own d in
     let n : length G ≡ dim S = length-words s 3 (dim S) in

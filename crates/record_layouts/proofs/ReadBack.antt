@@ -9,13 +9,11 @@ use lib.Dec.{ltb, T}
 use lib.ListN.{length, drop, length-append}
 use lib.Seq.{drop-append-seam}
 use borrow.Author.Tests.{eq-eqb, le-ltb}
-use Rattle.base.specs.Rules.{Rule, _when_, refusal, Clear, given}
+use Rattle.base.specs.Rules.{Rule, _when_, refusal, Clear, given, answerBy, leftBy}
 use Rattle.base.specs.Matrix.{allBelow}
-use Rattle.base.proofs.Rules.{none-applies}
+use Rattle.base.proofs.Rules.{none-applies, not-refused, positive, clear, clear-left, clear-right, clear-both, accepted, written}
 use Rattle.scheme.specs.Setup.{Setup, dim}
-use Rattle.scheme.specs.Answers.{answerBy, leftBy}
 use Rattle.scheme.specs.Calls.{limits, size, elements}
-use Rattle.scheme.proofs.Calls.{not-refused}
 use Rattle.record_words.specs.Words.{bytes, wordAt, wordsAt}
 use Rattle.record_words.proofs.Words.{length-bytes, word-of, words-of}
 use Rattle.record_layouts.specs.declared.DealingRecord.{DealingRecord}
@@ -29,7 +27,7 @@ use Rattle.record_layouts.specs.Records.{writeDealingRules, writeDealing
 use Rattle.record_layouts.specs.Records.{writePairCall, writePairLeft, pairValues, readPairCall}
 use Rattle.record_layouts.specs.Records.{writeVerdictCall, writeVerdictLeft, verdictValues, readVerdictCall}
 use Rattle.record_layouts.specs.Records.{writeShareCall, writeShareLeft, shareValues, readShareCall}
-use Rattle.record_layouts.proofs.Calls.{positive, passed, clear-left, clear-right, clear-both, accepted, written, setup-room, dealing-room, room-clear, matrix-as-setup}
+use Rattle.record_layouts.proofs.Calls.{setup-room, dealing-room, room-clear, matrix-as-setup}
 
 abbrev pub inFile : List ℕ → List ℕ → List ℕ → List ℕ
 inFile before part rest = drop (length before) (before ++ (part ++ rest))
@@ -46,7 +44,7 @@ module _ {A : Type 0} (mark size : ℕ) (fields : A → List ℕ) (at : List ℕ
   plain-read : (S : Setup) (x : A) (rest : List ℕ) (k : ℕ) → size ≤ 2 * suc (length (fields x)) → T (positive (faults S x))
       → refusal (limits S ++ room k size ∷ faults S x) ≡ 0 → refusal (limits S ++ due mark size (bytes (mark ∷ fields x) ++ rest) ++ faults S x) ≡ 0
   plain-read S x rest k h t e =
-      let c = passed (limits S ++ room k size ∷ faults S x) t e in
+      let c = clear (limits S ++ room k size ∷ faults S x) t e in
       let d = due mark size (bytes (mark ∷ fields x) ++ rest) in
       none-applies (limits S ++ d ++ faults S x)
       (clear-both (limits S) (d ++ faults S x) (clear-left (limits S) (room k size ∷ faults S x) c)
@@ -131,7 +129,7 @@ setup-fair S rest c m b =
 setup-reads : (S : Setup) (rest : List ℕ) (k : ℕ) → refusal (writeSetupRules S k) ≡ 0 → SetupReads S (bytes (setupWords S) ++ rest)
 setup-reads S rest k z =
     let s : List ℕ = bytes (setupWords S) ++ rest in
-    let c = passed (writeSetupRules S k) tt z in
+    let c = clear (writeSetupRules S k) tt z in
     let r = setup-room S k z in
     let f = setup-at S rest (r .0) in
     let o : refusal (readSetupRules s) ≡ 0 =
@@ -190,7 +188,7 @@ dealing-reads : (S : Setup) (x : DealingRecord) (g h rest : List ℕ) (k : ℕ) 
     → DealingReads S x g h (bytes (dealingWords x g h) ++ rest)
 dealing-reads S x g h rest k z =
     let s : List ℕ = bytes (dealingWords x g h) ++ rest in
-    let c = passed (writeDealingRules S x g h k) tt z in
+    let c = clear (writeDealingRules S x g h k) tt z in
     let r = dealing-room S x g h k z in
     let q : (a b : List ℕ) → length a ≡ dim S → length b ≡ dim S → refusal (readDealingRules S s (length a) (length b)) ≡ 0 = λ a b i j.
     dealing-fair S x g h rest (r .0) (r .1)

@@ -20,10 +20,9 @@ use mathlib.Core.List.{List, [], _∷_, _++_}
 use Prim.Native.Nat.{ℕ, _+_, _*_}
 use lib.Dec.{eqb, leb, ltb}
 use lib.ListN.{length}
-use Rattle.base.specs.Rules.{Rule, _when_, refusal, Answer, refused, given}
+use Rattle.base.specs.Rules.{Rule, _when_, refusal, Answer, refused, given, answerBy, leftBy}
 use Rattle.scheme.specs.declared.Params.{Params}
 use Rattle.scheme.specs.Setup.{Setup, dim, setupOf}
-use Rattle.scheme.specs.Answers.{answerBy, leftBy}
 use Rattle.scheme.specs.Calls.{limits, size, elements}
 use Rattle.record_words.specs.Words.{bytes, wordAt, wordsAt}
 use Rattle.record_layouts.specs.declared.DealingRecord.{DealingRecord}

@@ -10,14 +10,14 @@ use borrow.Author.Tests.{eqb-true, eqb-false, ne-eqb, not-true, not-false}
 use lib.Dec.{eqb, ltb}
 use lib.ListN.{length, take}
 use Rattle.base.specs.Choice.{pick}
-use Rattle.base.specs.Rules.{Answer, refusal, given}
+use Rattle.base.specs.Rules.{Answer, refusal, given, answerBy}
 use Rattle.base.specs.Search.{first, First, found, missing, firstVec, Vec}
 use Rattle.base.specs.Matrix.{flat}
 use Rattle.base.proofs.Matrix.{below-is}
 use Rattle.base.proofs.Search.{every-at, every-all, first-is, firstVec-sound, firstVec-complete}
 use Rattle.field.specs.Fields.{isField}
 use Rattle.scheme.specs.Setup.{Setup, dim, IsSetup}
-use Rattle.scheme.specs.Answers.{kept, aborted, fair, disagree, isARow, isAVector, isNeither, yes, no, undetermined, inconsistent, answerBy}
+use Rattle.scheme.specs.Answers.{kept, aborted, fair, disagree, isARow, isAVector, isNeither, yes, no, undetermined, inconsistent}
 use Rattle.scheme.specs.Dealing.{differs, judge, saidReject, isKept, outcome, pairValue, disagrees, rehearse}
 use Rattle.scheme.specs.Sets.{holds, members, hasRow, hasSweep, kind, determines, isPrivate}
 use Rattle.scheme.specs.Opening.{gives, opening, openedBy, combine}

@@ -9,32 +9,17 @@ use lib.Dec.{eqb, leb, ltb, T}
 use lib.ListN.{length}
 use borrow.Author.Tests.{eqb-true, eq-eqb, ne-eqb, ltb-false, le-ltb, leb-false, lt-leb, not-false}
 use Rattle.base.specs.Choice.{pick}
-use Rattle.base.specs.Rules.{Rule, _when_, refusal, Clear, Answer, refused, given}
+use Rattle.base.specs.Rules.{Rule, _when_, refusal, Clear, Answer, refused, given, answerBy, leftBy}
 use Rattle.base.specs.Search.{Vec}
 use Rattle.base.specs.Matrix.{allBelow, Below}
-use Rattle.base.proofs.Rules.{clear, none-applies}
+use Rattle.base.proofs.Rules.{clear, none-applies, clear-both, refusal-after}
 use Rattle.base.proofs.Matrix.{below-by, below-is}
 use Rattle.field.specs.Prime.{Prime}
 use Rattle.field.specs.Fields.{isField}
 use Rattle.field.proofs.Fields.{field-prime}
 use Rattle.scheme.specs.Setup.{Setup, dim, Limits, IsSetup}
-use Rattle.scheme.specs.Answers.{answerBy, leftBy}
 use Rattle.scheme.specs.Sets.{holds, members}
 use Rattle.scheme.specs.Calls.{outside, limits, size, elements, beyond, pointsRules, dealInputs, dealElements, dealRules, dealAllRules, pairValueRules, judgeRules, outcomeRules, rehearseRules, setRules, judgeSetRules, openRules, combineRules}
-
--- an answer with number 0 was not refused
-pub not-refused : (r : ℕ) (a : Answer) (vs : List ℕ) → answerBy r a ≡ given vs → (r ≡ 0) × (a ≡ given vs)
-not-refused zero a vs e = (refl, e)
-not-refused (suc r) a vs e = absurd (let z : _≡_ {A = ℕ} (suc r) 0 = ap (λ (b : Answer). b .number) e in omega arith)
-
--- a call that was refused
-pub declined : (r : ℕ) (a : Answer) → (r ≡ 0 → ⊥) → refused r ≡ answerBy r a
-declined zero a n = absurd (n refl)
-declined (suc r) a n = refl
-
-pub unchanged : (r : ℕ) (new old : List ℕ) → (r ≡ 0 → ⊥) → old ≡ leftBy r new old
-unchanged zero new old n = absurd (n refl)
-unchanged (suc r) new old n = refl
 
 -- the tests of refusals 2, 3 and 4, and the facts
 pub inside : (low high x : ℕ) → outside low high x ≡ false → (low ≤ x) × (x ≤ high)
@@ -88,16 +73,6 @@ limits-prime S L = field-prime (S .p) (L .field)
 
 pub limits-pos : (S : Setup) → Limits S → 0 < S .p
 limits-pos S L = omega (arith, limits-prime S L .big)
-
--- rules that do not hold may be passed over
-pub refusal-after : (l m : List Rule) → Clear l → refusal (l ++ m) ≡ refusal m
-refusal-after [] m c = refl
-refusal-after ((k when true) ∷ l) m c = absurd (false≢true (sym (c .0)))
-refusal-after ((k when false) ∷ l) m c = refusal-after l m (c .1)
-
-pub clear-both : (l m : List Rule) → Clear l → Clear m → Clear (l ++ m)
-clear-both [] m c d = d
-clear-both ((k when b) ∷ l) m c d = (c .0, clear-both l m (c .1) d)
 
 -- a table whose rules after the limits do not hold
 past-limits : (S : Setup) (m : List Rule) → Limits S → Clear m → refusal (limits S ++ m) ≡ 0

@@ -15,7 +15,7 @@ use lib.Arith.{digits-lt}
 use lib.ListN.{length, getD, take}
 use lib.Seq.{ext-getD, getD-take, length-take-le}
 use Rattle.base.specs.Choice.{pick}
-use Rattle.base.specs.Rules.{Answer, refusal, refused, given}
+use Rattle.base.specs.Rules.{Answer, refusal, refused, given, leftBy}
 use Rattle.base.specs.Sum.{sum}
 use Rattle.base.specs.Search.{every, first, First, found, missing, firstVec, Vec}
 use Rattle.base.specs.Fill.{tab}
@@ -28,13 +28,14 @@ use Rattle.field.specs.Prime.{Prime}
 use Rattle.field.specs.Dot.{at, dot}
 use Rattle.field.proofs.Dot.{dot-comm, dot-ext, dot-mod-right, dot-assoc, row-reads}
 use Rattle.scheme.specs.Setup.{Setup, dim, row}
-use Rattle.scheme.specs.Answers.{accepts, kept, yes, no, inconsistent, leftBy}
+use Rattle.scheme.specs.Answers.{accepts, kept, yes, no, inconsistent}
 use Rattle.scheme.specs.Dealing.{place, dealtEntry, dealt, partG, partH, pairValue, expected, judge, outcome, shares}
 use Rattle.scheme.specs.Sets.{holds, members, rowAt, hasRow, determines}
 use Rattle.scheme.specs.Opening.{gives, opening, openedBy, combine}
 use Rattle.scheme.specs.Calls.{decide, judgeCall, judgeRules, outcomeRules, determinesCall, setRules, openRules, openCall, openLeft, openAnswer, combineRules, combineCall, pairValueRules, dealRules}
 use Rattle.scheme.specs.Demand.{Dealing, Member, Keeps, Done, Terms, InLimits, constants, sharesOver, Present, Handed, handedIn, Array, column, IsArray, AgreesAt, Agrees, ExactlyOne, secretsOver, Opens, Refused, by-four, by-seven, Found, Honest, arrayDealt, HonestFound, FamilyFound, Demand3}
-use Rattle.scheme.proofs.Calls.{not-refused, limits-prime, limits-pos, set-ok, SetOk, judge-accepts, outcome-ok, outcome-accepts, open-by-shares, combine-accepts, DealOk, deal-ok, below-vec}
+use Rattle.base.proofs.Rules.{not-refused}
+use Rattle.scheme.proofs.Calls.{limits-prime, limits-pos, set-ok, SetOk, judge-accepts, outcome-ok, outcome-accepts, open-by-shares, combine-accepts, DealOk, deal-ok, below-vec}
 use Rattle.scheme.proofs.Verdicts.{accept-means, accept-when, kept-means, kept-when}
 use Rattle.scheme.proofs.Members.{member-at, place-of, members-wide}
 use Rattle.scheme.proofs.Sets.{theRow, theRow-is, same-secrets}

@@ -6,10 +6,9 @@
 -- isARow, isAVector, isNeither: the judgement of a set
 -- yes, no: a question's answer
 -- undetermined, inconsistent: refusal 6 with the lowest position that has no row, refusal 7
--- answerBy, leftBy: the answer and a lent buffer by the refusal's number: "buffers unchanged, in all rows" of the table of refusals
 use mathlib.Core.Bool.{false}
 use mathlib.Core.List.{List, [], _∷_}
-use Prim.Native.Nat.{ℕ, zero, suc}
+use Prim.Native.Nat.{ℕ}
 use Rattle.base.specs.Rules.{Answer, refused, given}
 use Rattle.scheme.specs.declared.Written.{Written}
 use Rattle.scheme.specs.declared.Written.the-variants.{Done, Refused}
@@ -70,14 +69,6 @@ undetermined k = record { answered = false; number = 6; values = k ∷ [] }
 
 abbrev pub inconsistent : Answer
 inconsistent = refused 7
-
-abbrev pub answerBy : ℕ → Answer → Answer
-answerBy zero a = a
-answerBy (suc k) a = refused (suc k)
-
-abbrev pub leftBy : ℕ → List ℕ → List ℕ → List ℕ
-leftBy zero new old = new
-leftBy (suc k) new old = old
 
 -- THE CASES OF THE CODE'S ANSWERS
 abbrev pub paperWritten : Written → Answer

@@ -10,7 +10,7 @@ use Prim.Native.Nat.{ℕ, _+_, _-_, _*_, _^_}
 use lib.Dec.{eqb, leb, ltb}
 use lib.ListN.{length, replicate}
 use Rattle.base.specs.Choice.{pick}
-use Rattle.base.specs.Rules.{Rule, _when_, refusal, Answer, given}
+use Rattle.base.specs.Rules.{Rule, _when_, refusal, Answer, given, answerBy, leftBy}
 use Rattle.base.specs.Search.{Vec}
 use Rattle.base.specs.Fill.{tab}
 use Rattle.base.specs.Matrix.{flat, allBelow}
@@ -18,7 +18,7 @@ use Rattle.field.specs.Fields.{isField}
 use Rattle.field.specs.Dot.{at}
 use Rattle.scheme.specs.Setup.{Setup, dim}
 use Rattle.scheme.specs.Points.{pointsMatrix}
-use Rattle.scheme.specs.Answers.{yes, no, answerBy, leftBy, isARow, isAVector, isNeither}
+use Rattle.scheme.specs.Answers.{yes, no, isARow, isAVector, isNeither}
 use Rattle.scheme.specs.Dealing.{dealt, partG, partH, pairValue, judge, outcome, isKept, shares, rehearse}
 use Rattle.scheme.specs.Sets.{holds, members, isRow, isSweep, kind, determines, isPrivate}
 use Rattle.scheme.specs.Opening.{opening, combine}

@@ -7,7 +7,8 @@ use lib.ListN.{length}
 use Rattle.base.proofs.Fill.{length-filled}
 use Rattle.base.proofs.Matrix.{row-fits}
 use Rattle.scheme.specs.Setup.{setupOf}
-use Rattle.scheme.proofs.Calls.{declined, unchanged, deal-ok, limits-pos}
+use Rattle.base.proofs.Rules.{declined, unchanged}
+use Rattle.scheme.proofs.Calls.{deal-ok, limits-pos}
 use Rattle.dealing.proofs.Parts.{deal-g, deal-h}
 use Rattle.dealing.proofs.deal.Statement.{statement}
 use Rattle.dealing.proofs.deal.Tie as tie

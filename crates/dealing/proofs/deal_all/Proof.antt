@@ -6,7 +6,8 @@ use borrow.Author.Needs.{needs}
 use lib.ListN.{length}
 use Rattle.base.proofs.Fill.{length-filled}
 use Rattle.scheme.specs.Setup.{setupOf}
-use Rattle.scheme.proofs.Calls.{declined, unchanged, dealAll-ok, limits-pos}
+use Rattle.base.proofs.Rules.{declined, unchanged}
+use Rattle.scheme.proofs.Calls.{dealAll-ok, limits-pos}
 use Rattle.dealing.proofs.Parts.{dealt-under, all-g, all-h}
 use Rattle.dealing.proofs.deal_all.Statement.{statement}
 use Rattle.dealing.proofs.deal_all.Tie as tie

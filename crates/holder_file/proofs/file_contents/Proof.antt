@@ -5,8 +5,8 @@ use native.Mathlib.Omega.{arith}
 use borrow.Author.Tests.{ltb-false}
 use lib.ListN.{length}
 use Rattle.base.specs.Rules.{refusal, refused}
-use Rattle.scheme.proofs.Calls.{declined, unchanged, size-is}
-use Rattle.record_layouts.proofs.Calls.{accepted, written, passed}
+use Rattle.base.proofs.Rules.{declined, unchanged, accepted, written, clear}
+use Rattle.scheme.proofs.Calls.{size-is}
 use Rattle.file_reading.specs.File.{readFile, told}
 use Rattle.holder_file.specs.Calls.{lentFile, numbers}
 use Rattle.holder_file.proofs.Laws.{refused-is, refused-answer, refused-left, whole-answer, whole-left, contents, told-is, told-fits, copied}
@@ -31,7 +31,7 @@ read-file-requires c κs =
     let s = x .file .now in
     let R = refusal (lentFile s (x .contents .now) 18) in
     let e = c .before .lent-refusal .ensures (x .contents .now) refl in
-    ltb-false 4096 (length s) (passed (lentFile s (x .contents .now) 18) tt (sym e ∙ c .if1 .left) .0)
+    ltb-false 4096 (length s) (clear (lentFile s (x .contents .now) 18) tt (sym e ∙ c .if1 .left) .0)
 
 returns-2 : tie.Need-returns-2
 returns-2 c =
@@ -55,7 +55,7 @@ copy-requires c κs =
     let x = c .before .before .before .before .before .before .before .before .before .before .args in
     let s = x .file .now in
     let e = c .before .before .before .before .before .before .before .lent-refusal .ensures (x .contents .now) refl in
-    (omega (arith, size-is (x .contents .now) 18 (passed (lentFile s (x .contents .now) 18) tt (sym e ∙ c .before .before .before .before .before .before .if1 .left) .1 .0)), omega (arith, c .before .before .tell-numbers .ensures .1))
+    (omega (arith, size-is (x .contents .now) 18 (clear (lentFile s (x .contents .now) 18) tt (sym e ∙ c .before .before .before .before .before .before .if1 .left) .1 .0)), omega (arith, c .before .before .tell-numbers .ensures .1))
 
 same-length : tie.Need-same-length
 same-length c = search needs
@@ -66,7 +66,7 @@ returns-3 c =
     let s = x .file .now in
     let R = refusal (lentFile s (x .contents .now) 18) in
     let e = c .before .before .before .before .before .before .before .before .before .before .lent-refusal .ensures (x .contents .now) refl in
-    let room = size-is (x .contents .now) 18 (passed (lentFile s (x .contents .now) 18) tt (sym e ∙ c .before .before .before .before .before .before .before .before .before .if1 .left) .1 .0) in
+    let room = size-is (x .contents .now) 18 (clear (lentFile s (x .contents .now) 18) tt (sym e ∙ c .before .before .before .before .before .before .before .before .before .if1 .left) .1 .0) in
     let z = sym e ∙ c .before .before .before .before .before .before .before .before .before .if1 .left in
     let r = c .before .before .before .before .before .before .before .before .read-file .result in
     let w = c .before .before .before .before .before .before .before .before .read-file .ensures in

@@ -7,8 +7,7 @@ use borrow.Author.Tests.{ltb-false, eqb-true, not-false}
 use lib.Dec.{eqb}
 use lib.ListN.{length, drop}
 use Rattle.base.specs.Rules.{refusal, refused, given}
-use Rattle.scheme.proofs.Calls.{declined, unchanged}
-use Rattle.record_layouts.proofs.Calls.{accepted, written, passed}
+use Rattle.base.proofs.Rules.{declined, unchanged, accepted, written, clear}
 use Rattle.file_reading.specs.File.{readFile}
 use Rattle.holder_file.specs.Text.{textOf}
 use Rattle.holder_file.specs.Calls.{lentFile}
@@ -34,7 +33,7 @@ read-file-requires c κs =
     let s = x .file .now in
     let R = refusal (lentFile s (x .out .now) 256) in
     let e = c .before .lent-refusal .ensures (x .out .now) refl in
-    ltb-false 4096 (length s) (passed (lentFile s (x .out .now) 256) tt (sym e ∙ c .if1 .left) .0)
+    ltb-false 4096 (length s) (clear (lentFile s (x .out .now) 256) tt (sym e ∙ c .if1 .left) .0)
 
 returns-2 : tie.Need-returns-2
 returns-2 c =
@@ -54,7 +53,7 @@ print-told-requires c κs =
     let R = refusal (lentFile s (x .out .now) 256) in
     let e = c .before .before .before .before .before .lent-refusal .ensures (x .out .now) refl in
     let f = told-fits s (c .before .before .before .read-file .result) (c .before .before .before .read-file .ensures) (c .before .before .if2 .left) in
-    let q = passed (lentFile s (x .out .now) 256) tt (sym e ∙ c .before .before .before .before .if1 .left) in
+    let q = clear (lentFile s (x .out .now) 256) tt (sym e ∙ c .before .before .before .before .if1 .left) in
     (f .0, f .1, omega (arith, eqb-true (length (x .out .now)) 256 (not-false (eqb (length (x .out .now)) 256) (q .1 .0))))
 
 same-length : tie.Need-same-length

@@ -7,7 +7,8 @@ use borrow.Author.Needs.{needs}
 use Rattle.base.specs.Rules.{given}
 use Rattle.field.proofs.Fields.{field-prime}
 use Rattle.scheme.specs.Opening.{combine}
-use Rattle.scheme.proofs.Calls.{declined, combine-ok}
+use Rattle.base.proofs.Rules.{declined}
+use Rattle.scheme.proofs.Calls.{combine-ok}
 use Rattle.judging.proofs.Products.{dot-whole}
 use Rattle.judging.proofs.combine_in.Statement.{statement}
 use Rattle.judging.proofs.combine_in.Tie as tie

@@ -1,7 +1,7 @@
 -- Where nothing is refused, the lowest value that differs is the judgement.
 use mathlib.Core.Path.{sym, _∙_}
 use borrow.Author.Needs.{needs}
-use Rattle.scheme.proofs.Calls.{declined}
+use Rattle.base.proofs.Rules.{declined}
 use Rattle.judging.proofs.Ends.{rejects-at, accepts-at}
 use Rattle.judging.proofs.judge.Statement.{statement}
 use Rattle.judging.proofs.judge.Tie as tie

@@ -4,7 +4,8 @@ use mathlib.Core.List.{[]}
 use native.Mathlib.Omega.{arith}
 use borrow.Author.Needs.{needs}
 use Rattle.scheme.specs.Setup.{setupOf}
-use Rattle.scheme.proofs.Calls.{declined, unchanged, outcome-ok}
+use Rattle.base.proofs.Rules.{declined, unchanged}
+use Rattle.scheme.proofs.Calls.{outcome-ok}
 use Rattle.judging.proofs.Ends.{not-kept, all-kept, aborted-at, kept-at}
 use Rattle.judging.proofs.outcome.Statement.{statement}
 use Rattle.judging.proofs.outcome.Tie as tie

@@ -5,7 +5,8 @@ use native.Mathlib.Omega.{arith}
 use borrow.Author.Needs.{needs}
 use Rattle.base.specs.Rules.{given}
 use Rattle.scheme.specs.Setup.{setupOf}
-use Rattle.scheme.proofs.Calls.{declined, pairValue-ok, limits-pos}
+use Rattle.base.proofs.Rules.{declined}
+use Rattle.scheme.proofs.Calls.{pairValue-ok, limits-pos}
 use Rattle.judging.proofs.Products.{row-inside, part-inside, is-pair-value}
 use Rattle.judging.proofs.pair_value.Statement.{statement}
 use Rattle.judging.proofs.pair_value.Tie as tie

@@ -1,7 +1,7 @@
 -- Where nothing is refused, the first pair that disagrees is the answer.
 use mathlib.Core.Path.{sym, _∙_}
 use borrow.Author.Needs.{needs}
-use Rattle.scheme.proofs.Calls.{declined}
+use Rattle.base.proofs.Rules.{declined}
 use Rattle.judging.proofs.rehearse.Statement.{statement}
 use Rattle.judging.proofs.rehearse.Tie as tie
 

@@ -3,7 +3,8 @@ use Prim.Native.Nat.{_+_, _≤_}
 use mathlib.Core.Path.{refl, sym, _∙_}
 use native.Mathlib.Omega.{arith}
 use borrow.Author.Needs.{needs}
-use Rattle.scheme.proofs.Calls.{declined, set-ok}
+use Rattle.base.proofs.Rules.{declined}
+use Rattle.scheme.proofs.Calls.{set-ok}
 use Rattle.scheme.specs.Setup.{setupOf}
 use Rattle.set_systems.proofs.Members.{prime-of, narrow, part-size, fresh}
 use Rattle.opening.proofs.Answer.{room-fits, zeros-vec, determines-by, determines-not}

@@ -6,7 +6,8 @@ use borrow.Author.Needs.{needs}
 use lib.ListN.{length}
 use Rattle.scheme.proofs.Members.{members-le}
 use Rattle.scheme.specs.Sets.{holds}
-use Rattle.scheme.proofs.Calls.{declined, unchanged, open-ok}
+use Rattle.base.proofs.Rules.{declined, unchanged}
+use Rattle.scheme.proofs.Calls.{open-ok}
 use Rattle.scheme.specs.Setup.{setupOf}
 use Rattle.set_systems.proofs.Members.{narrow, part-size, fresh}
 use Rattle.opening.proofs.Answer.{room-fits}

@@ -4,11 +4,10 @@ use mathlib.Core.Path.{_≡_, sym, ap, _∙_}
 use mathlib.Core.List.{[]}
 use native.Mathlib.Omega.{arith}
 use borrow.Author.Needs.{needs}
-use Rattle.base.specs.Rules.{given}
-use Rattle.scheme.specs.Answers.{answerBy}
+use Rattle.base.specs.Rules.{given, answerBy}
 use Rattle.scheme.specs.Points.{pointsMatrix}
 use Rattle.scheme.specs.Setup.{setupOf}
-use Rattle.scheme.proofs.Calls.{unchanged}
+use Rattle.base.proofs.Rules.{unchanged}
 use Rattle.points.proofs.Grid.{not-lowered, sizes-ok, whole-table}
 use Rattle.points.proofs.points_in.Statement.{statement}
 use Rattle.points.proofs.points_in.Tie as tie

@@ -1,6 +1,6 @@
 -- A number other than 0 declines.
 use mathlib.Core.Path.{refl}
-use Rattle.scheme.proofs.Calls.{declined}
+use Rattle.base.proofs.Rules.{declined}
 use Rattle.points.proofs.written.Statement.{statement}
 use Rattle.points.proofs.written.Tie as tie
 

@@ -6,10 +6,10 @@ use native.Mathlib.Omega.{arith}
 use borrow.Author.Needs.{needs}
 use Rattle.base.specs.Rules.{refusalFrom, refusal}
 use Rattle.scheme.specs.Setup.{dim, setupOf}
-use Rattle.scheme.proofs.Calls.{refusal-after}
+use Rattle.base.proofs.Rules.{refusal-after, stays, clear}
 use Rattle.record_layouts.specs.declared.DealingRecord.{DealingRecord}
 use Rattle.record_layouts.specs.Records.{dueDealing, dealingEntries, dealingFaults, dealingAt}
-use Rattle.record_layouts.proofs.Calls.{stays, passed, dealing-whole}
+use Rattle.record_layouts.proofs.Calls.{dealing-whole}
 use Rattle.record_reading.proofs.read_dealing_refusal.Statement.{statement}
 use Rattle.record_reading.proofs.read_dealing_refusal.Tie as tie
 
@@ -52,7 +52,7 @@ returns-2 c =
     ∙ ap (λ d. refusal (dealingEntries (S .p) d s ++ dealingFaults S (dealingAt s))) (c .before .before .before .dim .ensures .0)
     ∙ sym
     (refusal-after (dueDealing S s (x .g-room) (x .h-room)) (dealingEntries (S .p) (dim S) s ++ dealingFaults S (dealingAt s))
-    (passed (dueDealing S s (x .g-room) (x .h-room)) tt e))
+    (clear (dueDealing S s (x .g-room) (x .h-room)) tt e))
 
 pub read-dealing-refusal-spec : {M : Type 1} → statement M
 read-dealing-refusal-spec =

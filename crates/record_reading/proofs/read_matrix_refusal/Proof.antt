@@ -11,10 +11,10 @@ use Rattle.base.specs.Matrix.{allBelow}
 use Rattle.scheme.specs.declared.Params.{Params}
 use Rattle.scheme.specs.Setup.{dim}
 use Rattle.scheme.specs.Calls.{elements}
-use Rattle.scheme.proofs.Calls.{refusal-after}
+use Rattle.base.proofs.Rules.{refusal-after, stays, clear}
 use Rattle.record_words.specs.Words.{wordsAt}
 use Rattle.record_layouts.specs.Records.{room, setupAt, dueSetup}
-use Rattle.record_layouts.proofs.Calls.{stays, passed, setup-whole}
+use Rattle.record_layouts.proofs.Calls.{setup-whole}
 use Rattle.record_reading.proofs.read_matrix_refusal.Statement.{statement}
 use Rattle.record_reading.proofs.read_matrix_refusal.Tie as tie
 
@@ -57,7 +57,7 @@ returns-2 c =
     ∙ ap (λ b. orWhen b 4 (not (allBelow (x .result .p) (wordsAt s 5 (c .before .before .before .matrix-len .result))))) (c .before .before .or-size .ensures)
     ∙ ap (λ l. orWhen (orWhen 0 3 (not (eqb k l))) 4 (not (allBelow (x .result .p) (wordsAt s 5 l)))) (c .before .before .before .matrix-len .ensures)
     ∙ ap (λ (y : Params). orWhen (orWhen 0 3 (not (eqb k (y .n * (y .l + y .e))))) 4 (not (allBelow (y .p) (wordsAt s 5 (y .n * (y .l + y .e)))))) (x .ensures)
-    ∙ sym (refusal-after (dueSetup s) (room k (setupAt s .n * dim (setupAt s)) ∷ elements (setupAt s .p) (setupAt s .M) ∷ []) (passed (dueSetup s) tt e))
+    ∙ sym (refusal-after (dueSetup s) (room k (setupAt s .n * dim (setupAt s)) ∷ elements (setupAt s .p) (setupAt s .M) ∷ []) (clear (dueSetup s) tt e))
 
 pub read-matrix-refusal-spec : {M : Type 1} → statement M
 read-matrix-refusal-spec =

@@ -4,8 +4,7 @@ use mathlib.Core.Path.{sym, ap, _∙_}
 use borrow.Author.Needs.{needs}
 use Rattle.base.specs.Rules.{given}
 use Rattle.scheme.specs.declared.Params.{Params}
-use Rattle.scheme.proofs.Calls.{declined}
-use Rattle.record_layouts.proofs.Calls.{accepted}
+use Rattle.base.proofs.Rules.{declined, accepted}
 use Rattle.record_reading.proofs.read_setup_head.Statement.{statement}
 use Rattle.record_reading.proofs.read_setup_head.Tie as tie
 

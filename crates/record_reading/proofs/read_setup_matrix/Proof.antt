@@ -3,9 +3,9 @@ use mathlib.Core.Path.{sym, ap, _∙_}
 use native.Mathlib.Omega.{arith}
 use borrow.Author.Needs.{needs}
 use lib.ListN.{length}
-use Rattle.scheme.proofs.Calls.{declined, unchanged}
+use Rattle.base.proofs.Rules.{declined, unchanged, accepted, written}
 use Rattle.record_words.specs.Words.{wordsAt}
-use Rattle.record_layouts.proofs.Calls.{accepted, written, matrix-room}
+use Rattle.record_layouts.proofs.Calls.{matrix-room}
 use Rattle.record_reading.proofs.read_setup_matrix.Statement.{statement}
 use Rattle.record_reading.proofs.read_setup_matrix.Tie as tie
 

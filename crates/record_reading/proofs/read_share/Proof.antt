@@ -2,10 +2,9 @@
 use mathlib.Core.Path.{sym, ap, _∙_}
 use borrow.Author.Needs.{needs}
 use Rattle.base.specs.Rules.{given}
-use Rattle.scheme.proofs.Calls.{declined}
+use Rattle.base.proofs.Rules.{declined, accepted}
 use Rattle.record_layouts.specs.declared.ShareRecord.{ShareRecord}
 use Rattle.record_layouts.specs.Records.{shareValues}
-use Rattle.record_layouts.proofs.Calls.{accepted}
 use Rattle.record_reading.proofs.read_share.Statement.{statement}
 use Rattle.record_reading.proofs.read_share.Tie as tie
 

@@ -11,9 +11,8 @@ use Rattle.base.specs.Rules.{_when_, orWhen, refusal}
 use Rattle.scheme.specs.declared.Params.{Params}
 use Rattle.scheme.specs.Setup.{setupOf}
 use Rattle.scheme.specs.Calls.{limits}
-use Rattle.scheme.proofs.Calls.{refusal-after}
+use Rattle.base.proofs.Rules.{refusal-after, stays, clear}
 use Rattle.record_layouts.specs.Records.{markSU, due, setupAt, setupSize}
-use Rattle.record_layouts.proofs.Calls.{stays, passed}
 use Rattle.record_reading.proofs.setup_due.Statement.{statement}
 use Rattle.record_reading.proofs.setup_due.Tie as tie
 
@@ -56,7 +55,7 @@ returns-2 c =
     ∙ ap (λ l. orWhen (c .before .before .limits-refusal .result) 3 (ltb (length s) (10 + 2 * l))) (c .before .matrix-len .ensures)
     ∙ ap (λ b. orWhen b 3 (ltb (length s) (10 + 2 * (c .before .before .before .params-at .result .n * (c .before .before .before .params-at .result .l + c .before .before .before .params-at .result .e))))) (c .before .before .limits-refusal .ensures)
     ∙ ap (λ (x : Params). orWhen (refusal (limits (setupOf x []))) 3 (ltb (length s) (10 + 2 * (x .n * (x .l + x .e))))) (c .before .before .before .params-at .ensures)
-    ∙ sym (refusal-after (due markSU 10 s) (limits (setupAt s) ++ (3 when ltb (length s) (setupSize (setupAt s))) ∷ []) (passed (due markSU 10 s) tt e))
+    ∙ sym (refusal-after (due markSU 10 s) (limits (setupAt s) ++ (3 when ltb (length s) (setupSize (setupAt s))) ∷ []) (clear (due markSU 10 s) tt e))
 
 pub setup-due-spec : {M : Type 1} → statement M
 setup-due-spec =

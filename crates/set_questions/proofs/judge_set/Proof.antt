@@ -7,7 +7,8 @@ use borrow.Author.Needs.{needs}
 use lib.Seq.{length-take-le}
 use lib.ListN.{length, drop, replicate}
 use Rattle.scheme.specs.Answers.{isARow, isAVector, isNeither}
-use Rattle.scheme.proofs.Calls.{declined, judgeSet-ok}
+use Rattle.base.proofs.Rules.{declined}
+use Rattle.scheme.proofs.Calls.{judgeSet-ok}
 use Rattle.scheme.specs.Setup.{setupOf}
 use Rattle.set_systems.proofs.Members.{narrow}
 use Rattle.set_questions.proofs.Judge.{judged-row, judged-vector, judged-neither, back, buffer-judged, buffer-declined}

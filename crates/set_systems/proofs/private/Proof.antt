@@ -2,7 +2,8 @@
 use mathlib.Core.Path.{refl, sym, _∙_}
 use borrow.Author.Tests.{le-leb, lt-leb}
 use borrow.Author.Needs.{needs}
-use Rattle.scheme.proofs.Calls.{declined, set-ok}
+use Rattle.base.proofs.Rules.{declined}
+use Rattle.scheme.proofs.Calls.{set-ok}
 use Rattle.scheme.specs.Setup.{setupOf}
 use Rattle.set_systems.proofs.Members.{private-by}
 use Rattle.set_systems.proofs.private.Statement.{statement}
