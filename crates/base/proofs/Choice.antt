@@ -41,3 +41,7 @@ T-left false b h = h
 pub T-right : (a b : Bool) → T (a && b) → T b
 T-right true b h = h
 T-right false b h = absurd h
+
+pub T-both : (a b : Bool) → T a → T b → T (a && b)
+T-both true b h k = k
+T-both false b h k = h

@@ -9,7 +9,7 @@ use mathlib.Core.List.{List, [], _∷_, _++_}
 use mathlib.Core.Path.{_≡_, refl, sym, ap, _∙_}
 use lib.Dec.{leb, ltb, T, leb→le}
 use Rattle.base.specs.Rules.{Rule, _when_, orWhen, refusalFrom, refusal, rising, Rising, Applies, here, there, Clear, Answer, refused, given, answerBy, leftBy}
-use Rattle.base.proofs.Choice.{T-left, T-right}
+use Rattle.base.proofs.Choice.{T-left, T-right, T-both}
 
 abbrev pub positive : List Rule → Bool
 positive [] = true
@@ -81,6 +81,10 @@ clear-right ((k when b) ∷ l) m c = clear-right l m (c .1)
 pub clear-both : (l m : List Rule) → Clear l → Clear m → Clear (l ++ m)
 clear-both [] m c d = d
 clear-both ((k when b) ∷ l) m c d = (c .0, clear-both l m (c .1) d)
+
+pub positive-both : (l m : List Rule) → T (positive l) → T (positive m) → T (positive (l ++ m))
+positive-both [] m a b = b
+positive-both ((k when t) ∷ l) m a b = T-both (ltb 0 k) (positive (l ++ m)) (T-left (ltb 0 k) (positive l) a) (positive-both l m (T-right (ltb 0 k) (positive l) a) b)
 
 -- rules that do not hold may be passed over
 pub refusal-after : (l m : List Rule) → Clear l → refusal (l ++ m) ≡ refusal m

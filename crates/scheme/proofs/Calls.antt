@@ -1,28 +1,29 @@
--- What an accepted call says of its inputs, and that inputs which break nothing are accepted: each table is cleared by its inputs' facts, and its
--- being clear gives them back.
+-- What an accepted call says of its inputs, and that inputs which break nothing are accepted: one law each way for the shape that all tables have
+-- (in-order, accepts), then each call's own facts by name.
+-- InOrder: all that is lent is as needed
 use mathlib.Core.Path.{_≡_, refl, sym, ap, _∙_}
 use mathlib.Core.Bool.{Bool, true, false, not, _||_, false≢true}
 use mathlib.Core.List.{List, [], _∷_, _++_}
-use Prim.Native.Nat.{ℕ, zero, suc, _+_, _-_, _*_, _^_, _≤_, _<_}
+use Prim.Native.Nat.{ℕ, _+_, _-_, _*_, _^_, _≤_, _<_}
 use native.Mathlib.Omega.{arith}
 use lib.Dec.{eqb, leb, ltb, T}
 use lib.ListN.{length}
 use borrow.Author.Tests.{eqb-true, eq-eqb, ne-eqb, ltb-false, le-ltb, leb-false, lt-leb, not-false}
 use Rattle.base.specs.Choice.{pick}
-use Rattle.base.specs.Rules.{Rule, _when_, refusal, Clear, Answer, refused, given, answerBy, leftBy}
+use Rattle.base.specs.Rules.{Rule, _when_, refusal, Clear}
 use Rattle.base.specs.Search.{Vec}
 use Rattle.base.specs.Matrix.{allBelow, Below}
-use Rattle.base.proofs.Rules.{clear, none-applies, clear-both, refusal-after}
+use Rattle.base.proofs.Rules.{positive, positive-both, clear, none-applies, clear-left, clear-right, clear-both, refusal-after}
 use Rattle.base.proofs.Matrix.{below-by, below-is}
 use Rattle.field.specs.Prime.{Prime}
 use Rattle.field.specs.Fields.{isField}
 use Rattle.field.proofs.Fields.{field-prime}
 use Rattle.scheme.specs.Setup.{Setup, dim, Limits, IsSetup}
 use Rattle.scheme.specs.Sets.{holds, members}
-use Rattle.scheme.specs.Calls.{outside, limits, size, elements, beyond, pointsRules, dealInputs, dealElements, dealRules, dealAllRules, pairValueRules, judgeRules, outcomeRules, rehearseRules, setRules, judgeSetRules, openRules, combineRules}
+use Rattle.scheme.specs.Calls.{outside, limits, Lent, elements, room, beyondField, sizes, inField, table, matrix, dealLent, beyond, pointsRules, dealRules, dealAllRules, pairValueRules, judgeRules, outcomeRules, rehearseRules, setRules, judgeSetRules, openRules, combineRules}
 
--- the tests of refusals 2, 3 and 4, and the facts
-pub inside : (low high x : ℕ) → outside low high x ≡ false → (low ≤ x) × (x ≤ high)
+-- REFUSALS 1 TO 4, each test and its fact
+inside : (low high x : ℕ) → outside low high x ≡ false → (low ≤ x) × (x ≤ high)
 inside low high x = go (ltb x low) refl (ltb high x) refl
   where
     go : (a : Bool) → ltb x low ≡ a → (b : Bool) → ltb high x ≡ b → (a || b) ≡ false → (low ≤ x) × (x ≤ high)
@@ -30,43 +31,26 @@ inside low high x = go (ltb x low) refl (ltb high x) refl
     go false d true e h = absurd (false≢true (sym h))
     go false d false e h = (ltb-false x low d, ltb-false high x e)
 
-pub inside-clear : (low high x : ℕ) → low ≤ x → x ≤ high → outside low high x ≡ false
+inside-clear : (low high x : ℕ) → low ≤ x → x ≤ high → outside low high x ≡ false
 inside-clear low high x a b = rw (le-ltb x low a, le-ltb high x b)
 
-pub size-is : (xs : List ℕ) (k : ℕ) → not (eqb (length xs) k) ≡ false → length xs ≡ k
-size-is xs k e = eqb-true (length xs) k (not-false (eqb (length xs) k) e)
-
-pub size-clear : (xs : List ℕ) (k : ℕ) → length xs ≡ k → not (eqb (length xs) k) ≡ false
-size-clear xs k e = ap not (eq-eqb (length xs) k e)
-
-pub vec-of : (p k : ℕ) (xs : List ℕ) → 0 < p → not (eqb (length xs) k) ≡ false → not (allBelow p xs) ≡ false → Vec p k xs
-vec-of p k xs pos e f = record { size = size-is xs k e; small = λ i l. below-by p xs pos (not-false (allBelow p xs) f) i }
-
-pub elements-clear : (p k : ℕ) (xs : List ℕ) → Vec p k xs → not (allBelow p xs) ≡ false
-elements-clear p k xs v = ap not (below-is p xs (λ i l. v .small i (omega (arith, v .size))))
-
-pub below-vec : (p k : ℕ) (xs : List ℕ) → 0 < p → Vec p k xs → Below p xs
-below-vec p k xs pos v = below-by p xs pos (below-is p xs (λ i l. v .small i (omega (arith, v .size))))
-
--- refusals 1 and 2
-pub limits-of : (S : Setup) → not (isField (S .p)) ≡ false → outside 1 8 (S .l) ≡ false → outside 1 8 (S .e) ≡ false → outside 1 32 (S .n) ≡ false → Limits S
-limits-of S a b c d =
-    record { field = not-false (isField (S .p)) a; secret = inside 1 8 (S .l) b; random = inside 1 8 (S .e) c; holders = inside 1 32 (S .n) d }
-
-pub record LimitsClear (S : Setup) : Type 0 where
-  pub field : not (isField (S .p)) ≡ false
-  pub secret : outside 1 8 (S .l) ≡ false
-  pub random : outside 1 8 (S .e) ≡ false
-  pub holders : outside 1 32 (S .n) ≡ false
-
-pub limits-clear : (S : Setup) → Limits S → LimitsClear S
-limits-clear S L =
+pub limits-are : (S : Setup) → Clear (limits S) → Limits S
+limits-are S c =
     record {
-      field = ap not (L .field);
-      secret = inside-clear 1 8 (S .l) (L .secret .0) (L .secret .1);
-      random = inside-clear 1 8 (S .e) (L .random .0) (L .random .1);
-      holders = inside-clear 1 32 (S .n) (L .holders .0) (L .holders .1);
+      field = not-false (isField (S .p)) (c .0);
+      secret = inside 1 8 (S .l) (c .1 .0);
+      random = inside 1 8 (S .e) (c .1 .1 .0);
+      holders = inside 1 32 (S .n) (c .1 .1 .1 .0);
     }
+
+pub limits-clear : (S : Setup) → Limits S → Clear (limits S)
+limits-clear S L = (
+  ap not (L .field),
+  (
+    inside-clear 1 8 (S .l) (L .secret .0) (L .secret .1),
+    (inside-clear 1 8 (S .e) (L .random .0) (L .random .1), (inside-clear 1 32 (S .n) (L .holders .0) (L .holders .1), tt)),
+  ),
+)
 
 pub limits-prime : (S : Setup) → Limits S → Prime (S .p)
 limits-prime S L = field-prime (S .p) (L .field)
@@ -74,9 +58,81 @@ limits-prime S L = field-prime (S .p) (L .field)
 pub limits-pos : (S : Setup) → Limits S → 0 < S .p
 limits-pos S L = omega (arith, limits-prime S L .big)
 
--- a table whose rules after the limits do not hold
-past-limits : (S : Setup) (m : List Rule) → Limits S → Clear m → refusal (limits S ++ m) ≡ 0
-past-limits S m L d = let c = limits-clear S L in none-applies (limits S ++ m) (c .field, (c .secret, (c .random, (c .holders, d))))
+pub size-is : (has needed : ℕ) → not (eqb has needed) ≡ false → has ≡ needed
+size-is has needed e = eqb-true has needed (not-false (eqb has needed) e)
+
+pub size-clear : (has needed : ℕ) → has ≡ needed → not (eqb has needed) ≡ false
+size-clear has needed e = ap not (eq-eqb has needed e)
+
+pub vec-of : (p k : ℕ) (xs : List ℕ) → 0 < p → length xs ≡ k → not (allBelow p xs) ≡ false → Vec p k xs
+vec-of p k xs pos e f = record { size = e; small = λ i l. below-by p xs pos (not-false (allBelow p xs) f) i }
+
+pub elements-clear : (p k : ℕ) (xs : List ℕ) → Vec p k xs → not (allBelow p xs) ≡ false
+elements-clear p k xs v = ap not (below-is p xs (λ i l. v .small i (omega (arith, v .size))))
+
+pub below-vec : (p k : ℕ) (xs : List ℕ) → 0 < p → Vec p k xs → Below p xs
+below-vec p k xs pos v = below-by p xs pos (below-is p xs (λ i l. v .small i (omega (arith, v .size))))
+
+-- THE SHAPE OF A TABLE
+abbrev pub InOrder : ℕ → List Lent → Type 0
+InOrder p [] = Unit {0}
+InOrder p (elements xs k ∷ l) = Vec p k xs × InOrder p l
+InOrder p (room has k ∷ l) = (has ≡ k) × InOrder p l
+
+sizes-positive : (lent : List Lent) → T (positive (sizes lent))
+sizes-positive [] = tt
+sizes-positive (elements xs k ∷ l) = sizes-positive l
+sizes-positive (room has k ∷ l) = sizes-positive l
+
+field-positive : (p : ℕ) (lent : List Lent) → T (positive (inField p lent))
+field-positive p [] = tt
+field-positive p (elements xs k ∷ l) = field-positive p l
+field-positive p (room has k ∷ l) = field-positive p l
+
+lent-are : (p : ℕ) (lent : List Lent) → 0 < p → Clear (sizes lent) → Clear (inField p lent) → InOrder p lent
+lent-are p [] pos a b = tt
+lent-are p (elements xs k ∷ l) pos a b = (vec-of p k xs pos (size-is (length xs) k (a .0)) (b .0), lent-are p l pos (a .1) (b .1))
+lent-are p (room has k ∷ l) pos a b = (size-is has k (a .0), lent-are p l pos (a .1) b)
+
+sizes-clear : (p : ℕ) (lent : List Lent) → InOrder p lent → Clear (sizes lent)
+sizes-clear p [] v = tt
+sizes-clear p (elements xs k ∷ l) v = (size-clear (length xs) k (v .0 .size), sizes-clear p l (v .1))
+sizes-clear p (room has k ∷ l) v = (size-clear has k (v .0), sizes-clear p l (v .1))
+
+field-clear : (p : ℕ) (lent : List Lent) → InOrder p lent → Clear (inField p lent)
+field-clear p [] v = tt
+field-clear p (elements xs k ∷ l) v = (elements-clear p k xs (v .0), field-clear p l (v .1))
+field-clear p (room has k ∷ l) v = field-clear p l (v .1)
+
+-- what an accepted call says
+pub record Accepted (S : Setup) (ls : List Lent) (rs : List Rule) : Type 0 where
+  pub limits : Limits S
+  pub lent : InOrder (S .p) ls
+  pub own : Clear rs
+
+pub in-order : (S : Setup) (lent : List Lent) (own : List Rule) → T (positive own) → refusal (table S lent own) ≡ 0 → Accepted S lent own
+in-order S lent own t e =
+    let f = inField (S .p) lent in
+    let z = positive-both (sizes lent) (f ++ own) (sizes-positive lent) (positive-both f own (field-positive (S .p) lent) t) in
+    let c = clear (table S lent own) (positive-both (limits S) (sizes lent ++ (f ++ own)) tt z) e in
+    let L = limits-are S (clear-left (limits S) (sizes lent ++ (f ++ own)) c) in
+    let r = clear-right (limits S) (sizes lent ++ (f ++ own)) c in
+    let q = clear-right (sizes lent) (f ++ own) r in
+    record {
+      limits = L;
+      lent = lent-are (S .p) lent (limits-pos S L) (clear-left (sizes lent) (f ++ own) r) (clear-left f own q);
+      own = clear-right f own q;
+    }
+
+-- inputs that break nothing, but for the call's own rules
+pub by-own : (S : Setup) (lent : List Lent) (own : List Rule) → Limits S → InOrder (S .p) lent → refusal (table S lent own) ≡ refusal own
+by-own S lent own L v =
+    refusal-after (limits S) (sizes lent ++ (inField (S .p) lent ++ own)) (limits-clear S L)
+    ∙ refusal-after (sizes lent) (inField (S .p) lent ++ own) (sizes-clear (S .p) lent v)
+    ∙ refusal-after (inField (S .p) lent) own (field-clear (S .p) lent v)
+
+pub accepts : (S : Setup) (lent : List Lent) (own : List Rule) → Limits S → InOrder (S .p) lent → Clear own → refusal (table S lent own) ≡ 0
+accepts S lent own L v c = by-own S lent own L v ∙ none-applies own c
 
 -- POINTS
 pub record PointsOk (S : Setup) : Type 0 where
@@ -84,22 +140,20 @@ pub record PointsOk (S : Setup) : Type 0 where
   pub room : length (S .M) ≡ S .n * dim S
   pub fits : dim S + S .n ≤ S .p
 
-pub points-ok : (S : Setup) → refusal (pointsRules S) ≡ 0 → PointsOk S
-points-ok S e =
-    let c = clear (pointsRules S) tt e in
-    let r = c .1 .1 .1 .1 in
-    record {
-      limits = limits-of S (c .0) (c .1 .0) (c .1 .1 .0) (c .1 .1 .1 .0);
-      room = size-is (S .M) _ (r .0);
-      fits = ltb-false (S .p) (dim S + S .n) (r .1 .0);
-    }
+module _ (S : Setup) where
+  abbrev points-lent : List Lent
+  points-lent = room (length (S .M)) (S .n * dim S) ∷ []
 
-pub points-accepts : (S : Setup) → PointsOk S → refusal (pointsRules S) ≡ 0
-points-accepts S k =
-    past-limits S (size (S .M) (S .n * dim S) ∷ (15 when ltb (S .p) (dim S + S .n)) ∷ []) (k .limits) (
-      size-clear (S .M) _ (k .room),
-      (le-ltb (S .p) (dim S + S .n) (k .fits), tt),
-    )
+  abbrev points-own : List Rule
+  points-own = (15 when ltb (S .p) (dim S + S .n)) ∷ []
+
+  pub points-ok : refusal (pointsRules S) ≡ 0 → PointsOk S
+  points-ok e =
+      let r = in-order S points-lent points-own tt e in
+      record { limits = r .limits; room = r .lent .0; fits = ltb-false (S .p) (dim S + S .n) (r .own .0) }
+
+  pub points-accepts : PointsOk S → refusal (pointsRules S) ≡ 0
+  points-accepts k = accepts S points-lent points-own (k .limits) (k .room, tt) (le-ltb (S .p) (dim S + S .n) (k .fits), tt)
 
 -- DEAL AND DEAL TO ALL
 pub record DealOk (S : Setup) (secrets random : List ℕ) : Type 0 where
@@ -107,70 +161,44 @@ pub record DealOk (S : Setup) (secrets random : List ℕ) : Type 0 where
   pub vectors : Vec (S .p) (S .l * S .l) secrets
   pub entries : Vec (S .p) (dim S * dim S - S .l * S .l) random
 
-pub deal-ok : (S : Setup) (secrets random : List ℕ) (i : ℕ) (g h : List ℕ) → refusal (dealRules S secrets random i g h) ≡ 0
-    → DealOk S secrets random × (length g ≡ dim S) × (length h ≡ dim S) × (i < S .n)
-deal-ok S secrets random i g h e =
-    let c = clear (dealRules S secrets random i g h) tt e in
-    let L : Limits S = limits-of S (c .0) (c .1 .0) (c .1 .1 .0) (c .1 .1 .1 .0) in
-    let r = c .1 .1 .1 .1 in
-    let s = r .1 .1 .1 .1 .1 in (
-      record {
-        setup = record { limits = L; matrix = vec-of (S .p) _ (S .M) (limits-pos S L) (r .0) (s .0) };
-        vectors = vec-of (S .p) _ secrets (limits-pos S L) (r .1 .0) (s .1 .0);
-        entries = vec-of (S .p) _ random (limits-pos S L) (r .1 .1 .0) (s .1 .1 .0);
-      },
-      size-is g _ (r .1 .1 .1 .0),
-      size-is h _ (r .1 .1 .1 .1 .0),
-      leb-false (S .n) i (s .1 .1 .1 .0),
-    )
+module _ (S : Setup) (secrets random : List ℕ) where
+  -- with two buffers of k entries each
+  abbrev deal-lent : ℕ → List ℕ → List ℕ → List Lent
+  deal-lent k a b = dealLent S secrets random ++ room (length a) k ∷ room (length b) k ∷ []
 
-pub dealAll-ok : (S : Setup) (secrets random gs hs : List ℕ) → refusal (dealAllRules S secrets random gs hs) ≡ 0
-    → DealOk S secrets random × (length gs ≡ S .n * dim S) × (length hs ≡ S .n * dim S)
-dealAll-ok S secrets random gs hs e =
-    let c = clear (dealAllRules S secrets random gs hs) tt e in
-    let L : Limits S = limits-of S (c .0) (c .1 .0) (c .1 .1 .0) (c .1 .1 .1 .0) in
-    let r = c .1 .1 .1 .1 in
-    let s = r .1 .1 .1 .1 .1 in (
-      record {
-        setup = record { limits = L; matrix = vec-of (S .p) _ (S .M) (limits-pos S L) (r .0) (s .0) };
-        vectors = vec-of (S .p) _ secrets (limits-pos S L) (r .1 .0) (s .1 .0);
-        entries = vec-of (S .p) _ random (limits-pos S L) (r .1 .1 .0) (s .1 .1 .0);
-      },
-      size-is gs _ (r .1 .1 .1 .0),
-      size-is hs _ (r .1 .1 .1 .1 .0),
-    )
+  dealing-ok : (k : ℕ) (a b : List ℕ) (own : List Rule) → T (positive own) → refusal (table S (deal-lent k a b) own) ≡ 0
+      → DealOk S secrets random × (length a ≡ k) × (length b ≡ k) × Clear own
+  dealing-ok k a b own t e =
+      let r = in-order S (deal-lent k a b) own t e in
+      let v = r .lent in (
+        record { setup = record { limits = r .limits; matrix = v .0 }; vectors = v .1 .0; entries = v .1 .1 .0 },
+        v .1 .1 .1 .0,
+        v .1 .1 .1 .1 .0,
+        r .own,
+      )
 
--- the rules that both have, with whatever stands between and behind them
-dealing-accepts : (S : Setup) (secrets random : List ℕ) (k m : List Rule) → DealOk S secrets random → Clear k → Clear m
-    → refusal (dealInputs S secrets random ++ (k ++ (dealElements S secrets random ++ m))) ≡ 0
-dealing-accepts S secrets random k m ok c d =
-    past-limits S
-    (size (S .M) (S .n * dim S) ∷ size secrets (S .l * S .l) ∷ size random (dim S * dim S - S .l * S .l) ∷ k ++ (dealElements S secrets random ++ m))
-    (ok .setup .limits) (
-      size-clear (S .M) _ (ok .setup .matrix .size),
-      (
-        size-clear secrets _ (ok .vectors .size),
-        (
-          size-clear random _ (ok .entries .size),
-          clear-both k (dealElements S secrets random ++ m) c
-              (clear-both (dealElements S secrets random) m (
-                elements-clear (S .p) _ (S .M) (ok .setup .matrix),
-                (elements-clear (S .p) _ secrets (ok .vectors), (elements-clear (S .p) _ random (ok .entries), tt)),
-              ) d),
-        ),
-      ),
-    )
+  dealing-accepts : (k : ℕ) (a b : List ℕ) (own : List Rule) → DealOk S secrets random → length a ≡ k → length b ≡ k → Clear own
+      → refusal (table S (deal-lent k a b) own) ≡ 0
+  dealing-accepts k a b own ok i j c =
+      accepts S (deal-lent k a b) own (ok .setup .limits) (ok .setup .matrix, (ok .vectors, (ok .entries, (i, (j, tt))))) c
 
-pub deal-accepts : (S : Setup) (secrets random : List ℕ) (i : ℕ) (g h : List ℕ) → DealOk S secrets random → length g ≡ dim S → length h ≡ dim S → i < S .n
-    → refusal (dealRules S secrets random i g h) ≡ 0
-deal-accepts S secrets random i g h ok a b l =
-    dealing-accepts S secrets random (size g (dim S) ∷ size h (dim S) ∷ []) ((5 when leb (S .n) i) ∷ []) ok
-    (size-clear g _ a, (size-clear h _ b, tt)) (lt-leb (S .n) i l, tt)
+  pub deal-ok : (i : ℕ) (g h : List ℕ) → refusal (dealRules S secrets random i g h) ≡ 0
+      → DealOk S secrets random × (length g ≡ dim S) × (length h ≡ dim S) × (i < S .n)
+  deal-ok i g h e =
+      let r = dealing-ok (dim S) g h ((5 when leb (S .n) i) ∷ []) tt e in
+      (r .0, r .1, r .2, leb-false (S .n) i (r .3 .0))
 
-pub dealAll-accepts : (S : Setup) (secrets random gs hs : List ℕ) → DealOk S secrets random → length gs ≡ S .n * dim S → length hs ≡ S .n * dim S
-    → refusal (dealAllRules S secrets random gs hs) ≡ 0
-dealAll-accepts S secrets random gs hs ok a b =
-    dealing-accepts S secrets random (size gs (S .n * dim S) ∷ size hs (S .n * dim S) ∷ []) [] ok (size-clear gs _ a, (size-clear hs _ b, tt)) tt
+  pub deal-accepts : (i : ℕ) (g h : List ℕ) → DealOk S secrets random → length g ≡ dim S → length h ≡ dim S → i < S .n
+      → refusal (dealRules S secrets random i g h) ≡ 0
+  deal-accepts i g h ok a b l = dealing-accepts (dim S) g h ((5 when leb (S .n) i) ∷ []) ok a b (lt-leb (S .n) i l, tt)
+
+  pub dealAll-ok : (gs hs : List ℕ) → refusal (dealAllRules S secrets random gs hs) ≡ 0
+      → DealOk S secrets random × (length gs ≡ S .n * dim S) × (length hs ≡ S .n * dim S)
+  dealAll-ok gs hs e = let r = dealing-ok (S .n * dim S) gs hs [] tt e in (r .0, r .1, r .2)
+
+  pub dealAll-accepts : (gs hs : List ℕ) → DealOk S secrets random → length gs ≡ S .n * dim S → length hs ≡ S .n * dim S
+      → refusal (dealAllRules S secrets random gs hs) ≡ 0
+  dealAll-accepts gs hs ok a b = dealing-accepts (S .n * dim S) gs hs [] ok a b tt
 
 -- PAIR VALUE
 pub record PairValueOk (S : Setup) (g : List ℕ) (i : ℕ) : Type 0 where
@@ -178,39 +206,18 @@ pub record PairValueOk (S : Setup) (g : List ℕ) (i : ℕ) : Type 0 where
   pub part : Vec (S .p) (dim S) g
   pub to : i < S .n
 
-pub pairValue-ok : (S : Setup) (g : List ℕ) (i : ℕ) → refusal (pairValueRules S g i) ≡ 0 → PairValueOk S g i
-pairValue-ok S g i e =
-    let c = clear (pairValueRules S g i) tt e in
-    let L : Limits S = limits-of S (c .0) (c .1 .0) (c .1 .1 .0) (c .1 .1 .1 .0) in
-    let r = c .1 .1 .1 .1 in
-    record {
-      setup = record { limits = L; matrix = vec-of (S .p) _ (S .M) (limits-pos S L) (r .0) (r .1 .1 .0) };
-      part = vec-of (S .p) _ g (limits-pos S L) (r .1 .0) (r .1 .1 .1 .0);
-      to = leb-false (S .n) i (r .1 .1 .1 .1 .0);
-    }
+module _ (S : Setup) (g : List ℕ) (i : ℕ) where
+  abbrev pairValue-lent : List Lent
+  pairValue-lent = matrix S ∷ elements g (dim S) ∷ []
 
-pub pairValue-accepts : (S : Setup) (g : List ℕ) (i : ℕ) → PairValueOk S g i → refusal (pairValueRules S g i) ≡ 0
-pairValue-accepts S g i k =
-    let L = limits-clear S (k .setup .limits) in
-    none-applies (pairValueRules S g i) (
-      L .field,
-      (
-        L .secret,
-        (
-          L .random,
-          (
-            L .holders,
-            (
-              size-clear (S .M) _ (k .setup .matrix .size),
-              (
-                size-clear g _ (k .part .size),
-                (elements-clear (S .p) _ (S .M) (k .setup .matrix), (elements-clear (S .p) _ g (k .part), (lt-leb (S .n) i (k .to), tt))),
-              ),
-            ),
-          ),
-        ),
-      ),
-    )
+  pub pairValue-ok : refusal (pairValueRules S g i) ≡ 0 → PairValueOk S g i
+  pairValue-ok e =
+      let r = in-order S pairValue-lent ((5 when leb (S .n) i) ∷ []) tt e in
+      record { setup = record { limits = r .limits; matrix = r .lent .0 }; part = r .lent .1 .0; to = leb-false (S .n) i (r .own .0) }
+
+  pub pairValue-accepts : PairValueOk S g i → refusal (pairValueRules S g i) ≡ 0
+  pairValue-accepts k =
+      accepts S pairValue-lent ((5 when leb (S .n) i) ∷ []) (k .setup .limits) (k .setup .matrix, (k .part, tt)) (lt-leb (S .n) i (k .to), tt)
 
 -- JUDGE
 pub record JudgeOk (S : Setup) (h values : List ℕ) : Type 0 where
@@ -218,48 +225,17 @@ pub record JudgeOk (S : Setup) (h values : List ℕ) : Type 0 where
   pub part : Vec (S .p) (dim S) h
   pub received : Vec (S .p) (S .n) values
 
-pub judge-ok : (S : Setup) (h values : List ℕ) → refusal (judgeRules S h values) ≡ 0 → JudgeOk S h values
-judge-ok S h values e =
-    let c = clear (judgeRules S h values) tt e in
-    let L : Limits S = limits-of S (c .0) (c .1 .0) (c .1 .1 .0) (c .1 .1 .1 .0) in
-    let r = c .1 .1 .1 .1 in
-    record {
-      setup = record { limits = L; matrix = vec-of (S .p) _ (S .M) (limits-pos S L) (r .0) (r .1 .1 .1 .0) };
-      part = vec-of (S .p) _ h (limits-pos S L) (r .1 .0) (r .1 .1 .1 .1 .0);
-      received = vec-of (S .p) _ values (limits-pos S L) (r .1 .1 .0) (r .1 .1 .1 .1 .1 .0);
-    }
+module _ (S : Setup) (h values : List ℕ) where
+  abbrev judge-lent : List Lent
+  judge-lent = matrix S ∷ elements h (dim S) ∷ elements values (S .n) ∷ []
 
-pub judge-accepts : (S : Setup) (h values : List ℕ) → JudgeOk S h values → refusal (judgeRules S h values) ≡ 0
-judge-accepts S h values k =
-    let L = limits-clear S (k .setup .limits) in
-    none-applies (judgeRules S h values) (
-      L .field,
-      (
-        L .secret,
-        (
-          L .random,
-          (
-            L .holders,
-            (
-              size-clear (S .M) _ (k .setup .matrix .size),
-              (
-                size-clear h _ (k .part .size),
-                (
-                  size-clear values _ (k .received .size),
-                  (
-                    elements-clear (S .p) _ (S .M) (k .setup .matrix),
-                    (
-                      elements-clear (S .p) _ h (k .part),
-                      (elements-clear (S .p) _ values (k .received), tt),
-                    ),
-                  ),
-                ),
-              ),
-            ),
-          ),
-        ),
-      ),
-    )
+  pub judge-ok : refusal (judgeRules S h values) ≡ 0 → JudgeOk S h values
+  judge-ok e =
+      let r = in-order S judge-lent [] tt e in
+      record { setup = record { limits = r .limits; matrix = r .lent .0 }; part = r .lent .1 .0; received = r .lent .1 .1 .0 }
+
+  pub judge-accepts : JudgeOk S h values → refusal (judgeRules S h values) ≡ 0
+  judge-accepts k = accepts S judge-lent [] (k .setup .limits) (k .setup .matrix, (k .part, (k .received, tt))) tt
 
 -- OUTCOME
 pub record OutcomeOk (S : Setup) (g verdicts out : List ℕ) : Type 0 where
@@ -268,40 +244,22 @@ pub record OutcomeOk (S : Setup) (g verdicts out : List ℕ) : Type 0 where
   pub heard : Vec 2 (S .n) verdicts
   pub room : length out ≡ S .l
 
-pub outcome-ok : (S : Setup) (g verdicts out : List ℕ) → refusal (outcomeRules S g verdicts out) ≡ 0 → OutcomeOk S g verdicts out
-outcome-ok S g verdicts out e =
-    let c = clear (outcomeRules S g verdicts out) tt e in
-    let L : Limits S = limits-of S (c .0) (c .1 .0) (c .1 .1 .0) (c .1 .1 .1 .0) in
-    let r = c .1 .1 .1 .1 in
-    record {
-      limits = L;
-      part = vec-of (S .p) _ g (limits-pos S L) (r .0) (r .1 .1 .1 .0);
-      heard = vec-of 2 _ verdicts (omega arith) (r .1 .0) (r .1 .1 .1 .1 .0);
-      room = size-is out _ (r .1 .1 .0);
-    }
+module _ (S : Setup) (g verdicts out : List ℕ) where
+  abbrev outcome-lent : List Lent
+  outcome-lent = elements g (dim S) ∷ room (length verdicts) (S .n) ∷ room (length out) (S .l) ∷ []
 
-pub outcome-accepts : (S : Setup) (g verdicts out : List ℕ) → OutcomeOk S g verdicts out → refusal (outcomeRules S g verdicts out) ≡ 0
-outcome-accepts S g verdicts out k =
-    let L = limits-clear S (k .limits) in
-    none-applies (outcomeRules S g verdicts out) (
-      L .field,
-      (
-        L .secret,
-        (
-          L .random,
-          (
-            L .holders,
-            (
-              size-clear g _ (k .part .size),
-              (
-                size-clear verdicts _ (k .heard .size),
-                (size-clear out _ (k .room), (elements-clear (S .p) _ g (k .part), (elements-clear 2 _ verdicts (k .heard), tt))),
-              ),
-            ),
-          ),
-        ),
-      ),
-    )
+  abbrev outcome-own : List Rule
+  outcome-own = (12 when not (allBelow 2 verdicts)) ∷ []
+
+  pub outcome-ok : refusal (outcomeRules S g verdicts out) ≡ 0 → OutcomeOk S g verdicts out
+  outcome-ok e =
+      let r = in-order S outcome-lent outcome-own tt e in
+      let v = r .lent in
+      record { limits = r .limits; part = v .0; heard = vec-of 2 (S .n) verdicts (omega arith) (v .1 .0) (r .own .0); room = v .1 .1 .0 }
+
+  pub outcome-accepts : OutcomeOk S g verdicts out → refusal (outcomeRules S g verdicts out) ≡ 0
+  outcome-accepts k =
+      accepts S outcome-lent outcome-own (k .limits) (k .part, (k .heard .size, (k .room, tt))) (elements-clear 2 _ verdicts (k .heard), tt)
 
 -- REHEARSE
 pub record RehearseOk (S : Setup) (gs hs : List ℕ) : Type 0 where
@@ -309,95 +267,49 @@ pub record RehearseOk (S : Setup) (gs hs : List ℕ) : Type 0 where
   pub rows : Vec (S .p) (S .n * dim S) gs
   pub columns : Vec (S .p) (S .n * dim S) hs
 
-pub rehearse-ok : (S : Setup) (gs hs : List ℕ) → refusal (rehearseRules S gs hs) ≡ 0 → RehearseOk S gs hs
-rehearse-ok S gs hs e =
-    let c = clear (rehearseRules S gs hs) tt e in
-    let L : Limits S = limits-of S (c .0) (c .1 .0) (c .1 .1 .0) (c .1 .1 .1 .0) in
-    let r = c .1 .1 .1 .1 in
-    record {
-      setup = record { limits = L; matrix = vec-of (S .p) _ (S .M) (limits-pos S L) (r .0) (r .1 .1 .1 .0) };
-      rows = vec-of (S .p) _ gs (limits-pos S L) (r .1 .0) (r .1 .1 .1 .1 .0);
-      columns = vec-of (S .p) _ hs (limits-pos S L) (r .1 .1 .0) (r .1 .1 .1 .1 .1 .0);
-    }
+module _ (S : Setup) (gs hs : List ℕ) where
+  abbrev rehearse-lent : List Lent
+  rehearse-lent = matrix S ∷ elements gs (S .n * dim S) ∷ elements hs (S .n * dim S) ∷ []
 
-pub rehearse-accepts : (S : Setup) (gs hs : List ℕ) → RehearseOk S gs hs → refusal (rehearseRules S gs hs) ≡ 0
-rehearse-accepts S gs hs k =
-    past-limits S
-    (size (S .M) (S .n * dim S) ∷ size gs (S .n * dim S) ∷ size hs (S .n * dim S) ∷ elements (S .p) (S .M) ∷ elements (S .p) gs ∷ elements (S .p) hs ∷ [])
-    (k .setup .limits) (
-      size-clear (S .M) _ (k .setup .matrix .size),
-      (
-        size-clear gs _ (k .rows .size),
-        (
-          size-clear hs _ (k .columns .size),
-          (
-            elements-clear (S .p) _ (S .M) (k .setup .matrix),
-            (elements-clear (S .p) _ gs (k .rows), (elements-clear (S .p) _ hs (k .columns), tt)),
-          ),
-        ),
-      ),
-    )
+  pub rehearse-ok : refusal (rehearseRules S gs hs) ≡ 0 → RehearseOk S gs hs
+  rehearse-ok e =
+      let r = in-order S rehearse-lent [] tt e in
+      record { setup = record { limits = r .limits; matrix = r .lent .0 }; rows = r .lent .1 .0; columns = r .lent .1 .1 .0 }
+
+  pub rehearse-accepts : RehearseOk S gs hs → refusal (rehearseRules S gs hs) ≡ 0
+  rehearse-accepts k = accepts S rehearse-lent [] (k .setup .limits) (k .setup .matrix, (k .rows, (k .columns, tt))) tt
 
 -- SETS
 pub record SetOk (S : Setup) (s : ℕ) : Type 0 where
   pub setup : IsSetup S
   pub inside : s < 2 ^ S .n
 
-pub set-ok : (S : Setup) (s : ℕ) → refusal (setRules S s) ≡ 0 → SetOk S s
-set-ok S s e =
-    let c = clear (setRules S s) tt e in
-    let L : Limits S = limits-of S (c .0) (c .1 .0) (c .1 .1 .0) (c .1 .1 .1 .0) in
-    let r = c .1 .1 .1 .1 in
-    record {
-      setup = record { limits = L; matrix = vec-of (S .p) _ (S .M) (limits-pos S L) (r .0) (r .1 .0) };
-      inside = leb-false (2 ^ S .n) s (r .1 .1 .0);
-    }
+module _ (S : Setup) (s : ℕ) where
+  pub set-ok : refusal (setRules S s) ≡ 0 → SetOk S s
+  set-ok e =
+      let r = in-order S (matrix S ∷ []) ((5 when beyond (S .n) s) ∷ []) tt e in
+      record { setup = record { limits = r .limits; matrix = r .lent .0 }; inside = leb-false (2 ^ S .n) s (r .own .0) }
 
-pub set-accepts : (S : Setup) (s : ℕ) → SetOk S s → refusal (setRules S s) ≡ 0
-set-accepts S s k =
-    let L = limits-clear S (k .setup .limits) in
-    none-applies (setRules S s) (
-      L .field,
-      (
-        L .secret,
-        (
-          L .random,
-          (
-            L .holders,
-            (
-              size-clear (S .M) _ (k .setup .matrix .size),
-              (
-                elements-clear (S .p) _ (S .M) (k .setup .matrix),
-                (lt-leb (2 ^ S .n) s (k .inside), tt),
-              ),
-            ),
-          ),
-        ),
-      ),
-    )
+  pub set-accepts : SetOk S s → refusal (setRules S s) ≡ 0
+  set-accepts k =
+      accepts S (matrix S ∷ []) ((5 when beyond (S .n) s) ∷ []) (k .setup .limits) (k .setup .matrix, tt) (lt-leb (2 ^ S .n) s (k .inside), tt)
 
-pub judgeSet-ok : (S : Setup) (s q : ℕ) (out : List ℕ) → refusal (judgeSetRules S s q out) ≡ 0 → SetOk S s × (length out ≡ 32) × (q < S .l)
-judgeSet-ok S s q out e =
-    let c = clear (judgeSetRules S s q out) tt e in
-    let L : Limits S = limits-of S (c .0) (c .1 .0) (c .1 .1 .0) (c .1 .1 .1 .0) in
-    let r = c .1 .1 .1 .1 in (
-      record {
-        setup = record { limits = L; matrix = vec-of (S .p) _ (S .M) (limits-pos S L) (r .0) (r .1 .1 .0) };
-        inside = leb-false (2 ^ S .n) s (r .1 .1 .1 .0);
-      },
-      size-is out 32 (r .1 .0),
-      leb-false (S .l) q (r .1 .1 .1 .1 .0),
-    )
+module _ (S : Setup) (s q : ℕ) (out : List ℕ) where
+  abbrev judgeSet-own : List Rule
+  judgeSet-own = (5 when beyond (S .n) s) ∷ (5 when leb (S .l) q) ∷ []
 
-pub judgeSet-accepts : (S : Setup) (s q : ℕ) (out : List ℕ) → SetOk S s → length out ≡ 32 → q < S .l → refusal (judgeSetRules S s q out) ≡ 0
-judgeSet-accepts S s q out k room l =
-    past-limits S (size (S .M) (S .n * dim S) ∷ size out 32 ∷ elements (S .p) (S .M) ∷ (5 when beyond (S .n) s) ∷ (5 when leb (S .l) q) ∷ []) (k .setup .limits) (
-      size-clear (S .M) _ (k .setup .matrix .size),
-      (
-        size-clear out 32 room,
-        (elements-clear (S .p) _ (S .M) (k .setup .matrix), (lt-leb (2 ^ S .n) s (k .inside), (lt-leb (S .l) q l, tt))),
-      ),
-    )
+  pub judgeSet-ok : refusal (judgeSetRules S s q out) ≡ 0 → SetOk S s × (length out ≡ 32) × (q < S .l)
+  judgeSet-ok e =
+      let r = in-order S (matrix S ∷ room (length out) 32 ∷ []) judgeSet-own tt e in (
+        record { setup = record { limits = r .limits; matrix = r .lent .0 }; inside = leb-false (2 ^ S .n) s (r .own .0) },
+        r .lent .1 .0,
+        leb-false (S .l) q (r .own .1 .0),
+      )
+
+  pub judgeSet-accepts : SetOk S s → length out ≡ 32 → q < S .l → refusal (judgeSetRules S s q out) ≡ 0
+  judgeSet-accepts k e l =
+      accepts S (matrix S ∷ room (length out) 32 ∷ []) judgeSet-own (k .setup .limits) (k .setup .matrix, (e, tt))
+      (lt-leb (2 ^ S .n) s (k .inside), (lt-leb (S .l) q l, tt))
 
 -- OPEN
 pub record OpenOk (S : Setup) (s : ℕ) (xs out : List ℕ) : Type 0 where
@@ -405,50 +317,33 @@ pub record OpenOk (S : Setup) (s : ℕ) (xs out : List ℕ) : Type 0 where
   pub shares : Vec (S .p) (length (members 32 (holds s))) xs
   pub room : length out ≡ S .l
 
-pub open-ok : (S : Setup) (s : ℕ) (xs out : List ℕ) → refusal (openRules S s xs out) ≡ 0 → OpenOk S s xs out
-open-ok S s xs out e =
-    let c = clear (openRules S s xs out) tt e in
-    let L : Limits S = limits-of S (c .0) (c .1 .0) (c .1 .1 .0) (c .1 .1 .1 .0) in
-    let r = c .1 .1 .1 .1 in
-    record {
-      set = record {
-        setup = record { limits = L; matrix = vec-of (S .p) _ (S .M) (limits-pos S L) (r .0) (r .1 .1 .1 .0) };
-        inside = leb-false (2 ^ S .n) s (r .1 .1 .1 .1 .1 .0);
-      };
-      shares = vec-of (S .p) _ xs (limits-pos S L) (r .1 .0) (r .1 .1 .1 .1 .0);
-      room = size-is out _ (r .1 .1 .0);
-    }
+module _ (S : Setup) (s : ℕ) (xs out : List ℕ) where
+  abbrev open-lent : List Lent
+  open-lent = matrix S ∷ elements xs (length (members 32 (holds s))) ∷ room (length out) (S .l) ∷ []
 
--- all but the shares' elements in order: the refusal is 4 exactly where some share is no field element
-pub open-by-shares : (S : Setup) (s : ℕ) (xs out : List ℕ) → SetOk S s → length xs ≡ length (members 32 (holds s)) → length out ≡ S .l
-    → refusal (openRules S s xs out) ≡ pick (allBelow (S .p) xs) 0 4
-open-by-shares S s xs out k a b =
-    let L = limits-clear S (k .setup .limits) in
-    refusal-after (limits S ++ size (S .M) (S .n * dim S) ∷ size xs (length (members 32 (holds s))) ∷ size out (S .l) ∷ elements (S .p) (S .M) ∷ [])
-    (elements (S .p) xs ∷ (5 when beyond (S .n) s) ∷ []) (
-      L .field,
-      (
-        L .secret,
-        (
-          L .random,
-          (
-            L .holders,
-            (
-              size-clear (S .M) _ (k .setup .matrix .size),
-              (
-                size-clear xs _ a,
-                (size-clear out _ b, (elements-clear (S .p) _ (S .M) (k .setup .matrix), tt)),
-              ),
-            ),
-          ),
-        ),
-      ),
-    )
-    ∙ rw (lt-leb (2 ^ S .n) s (k .inside)) (last (allBelow (S .p) xs))
-  where
-    last : (b : Bool) → refusal ((4 when not b) ∷ (5 when false) ∷ []) ≡ pick b 0 4
-    last true = refl
-    last false = refl
+  abbrev open-own : List Rule
+  open-own = (5 when beyond (S .n) s) ∷ []
+
+  pub open-ok : refusal (openRules S s xs out) ≡ 0 → OpenOk S s xs out
+  open-ok e =
+      let r = in-order S open-lent open-own tt e in
+      record {
+        set = record { setup = record { limits = r .limits; matrix = r .lent .0 }; inside = leb-false (2 ^ S .n) s (r .own .0) };
+        shares = r .lent .1 .0;
+        room = r .lent .1 .1 .0;
+      }
+
+  -- all but the shares' elements in order: the refusal is 4 exactly where some share is no field element
+  pub open-by-shares : SetOk S s → length xs ≡ length (members 32 (holds s)) → length out ≡ S .l
+      → refusal (openRules S s xs out) ≡ pick (allBelow (S .p) xs) 0 4
+  open-by-shares k a b =
+      by-own S (matrix S ∷ room (length xs) (length (members 32 (holds s))) ∷ room (length out) (S .l) ∷ []) (beyondField (S .p) xs ∷ open-own) (k .setup .limits)
+      (k .setup .matrix, (a, (b, tt)))
+      ∙ rw (lt-leb (2 ^ S .n) s (k .inside)) (last (allBelow (S .p) xs))
+    where
+      last : (b : Bool) → refusal ((4 when not b) ∷ (5 when false) ∷ []) ≡ pick b 0 4
+      last true = refl
+      last false = refl
 
 -- COMBINE
 pub record CombineOk (p : ℕ) (cs xs : List ℕ) : Type 0 where
@@ -457,30 +352,31 @@ pub record CombineOk (p : ℕ) (cs xs : List ℕ) : Type 0 where
   pub shares : Vec p (length cs) xs
   pub few : length cs ≤ 64
 
-pub combine-ok : (p : ℕ) (cs xs : List ℕ) → refusal (combineRules p cs xs) ≡ 0 → CombineOk p cs xs
-combine-ok p cs xs e =
-    let c = clear (combineRules p cs xs) tt e in
-    let f : isField p ≡ true = not-false (isField p) (c .0) in
-    let pos : 0 < p = omega (arith, field-prime p f .big) in
-    record {
-      field = f;
-      constants = vec-of p _ cs pos (size-clear cs (length cs) refl) (c .1 .1 .1 .0);
-      shares = vec-of p _ xs pos (c .1 .0) (c .1 .1 .1 .1 .0);
-      few = ltb-false 64 (length cs) (c .1 .1 .0);
-    }
+module _ (p : ℕ) (cs xs : List ℕ) where
+  pub combine-ok : refusal (combineRules p cs xs) ≡ 0 → CombineOk p cs xs
+  combine-ok e =
+      let c = clear (combineRules p cs xs) tt e in
+      let f : isField p ≡ true = not-false (isField p) (c .0) in
+      let pos : 0 < p = omega (arith, field-prime p f .big) in
+      record {
+        field = f;
+        constants = vec-of p _ cs pos refl (c .1 .1 .1 .0);
+        shares = vec-of p _ xs pos (size-is (length xs) (length cs) (c .1 .0)) (c .1 .1 .1 .1 .0);
+        few = ltb-false 64 (length cs) (c .1 .1 .0);
+      }
 
-pub combine-accepts : (p : ℕ) (cs xs : List ℕ) → CombineOk p cs xs → 0 < length cs → refusal (combineRules p cs xs) ≡ 0
-combine-accepts p cs xs k some =
-    none-applies (combineRules p cs xs) (
-      ap not (k .field),
-      (
-        size-clear xs _ (k .shares .size),
+  pub combine-accepts : CombineOk p cs xs → 0 < length cs → refusal (combineRules p cs xs) ≡ 0
+  combine-accepts k some =
+      none-applies (combineRules p cs xs) (
+        ap not (k .field),
         (
-          le-ltb 64 (length cs) (k .few),
+          size-clear (length xs) (length cs) (k .shares .size),
           (
-            elements-clear p _ cs (k .constants),
-            (elements-clear p _ xs (k .shares), (rw (ne-eqb (length cs) 0 (λ z. omega arith)) refl, tt)),
+            le-ltb 64 (length cs) (k .few),
+            (
+              elements-clear p _ cs (k .constants),
+              (elements-clear p _ xs (k .shares), (rw (ne-eqb (length cs) 0 (λ z. omega arith)) refl, tt)),
+            ),
           ),
         ),
-      ),
-    )
+      )

@@ -1,7 +1,10 @@
 -- The open calls: for each its refusals in one ordered table with document 01's numbers ("What a call gives when it declines"), then its answer,
 -- then what each lent buffer holds.
--- limits: refusals 1 and 2, which every call with a setup has
--- size, elements: one rule of refusal 3, one of refusal 4
+-- limits: refusals 1 and 2
+-- Lent: one thing that a call is lent: so many field elements, or a buffer that has, and needs, so many entries
+-- sizes, inField: refusals 3 and 4 of all that is lent
+-- table: the one shape of a table: the limits, the lengths of all that is lent, the elements of all that is taken, then the call's own rules
+-- matrix: the setup's matrix, lent
 -- xRules, xCall, xLeft: the table, the answer and the buffer of call x
 use mathlib.Core.Path.{_≡_}
 use mathlib.Core.Bool.{Bool, true, not, _&&_, _||_}
@@ -31,15 +34,35 @@ abbrev pub limits : Setup → List Rule
 limits S = (1 when not (isField (S .p))) ∷ (2 when outside 1 8 (S .l)) ∷ (2 when outside 1 8 (S .e)) ∷ (2 when outside 1 32 (S .n)) ∷ []
 
 -- "3: a lent length isn't the one needed"; "4: a field element is p or more"
-abbrev pub size : List ℕ → ℕ → Rule
-size xs needed = 3 when not (eqb (length xs) needed)
+pub data Lent : Type 0 where
+  elements : List ℕ → ℕ → Lent
+  room : ℕ → ℕ → Lent
 
-abbrev pub elements : ℕ → List ℕ → Rule
-elements p xs = 4 when not (allBelow p xs)
+abbrev pub size : ℕ → ℕ → Rule
+size has needed = 3 when not (eqb has needed)
+
+abbrev pub beyondField : ℕ → List ℕ → Rule
+beyondField p xs = 4 when not (allBelow p xs)
+
+abbrev pub sizes : List Lent → List Rule
+sizes [] = []
+sizes (elements xs k ∷ l) = size (length xs) k ∷ sizes l
+sizes (room has k ∷ l) = size has k ∷ sizes l
+
+abbrev pub inField : ℕ → List Lent → List Rule
+inField p [] = []
+inField p (elements xs k ∷ l) = beyondField p xs ∷ inField p l
+inField p (room has k ∷ l) = inField p l
+
+abbrev pub table : Setup → List Lent → List Rule → List Rule
+table S lent own = limits S ++ (sizes lent ++ (inField (S .p) lent ++ own))
+
+abbrev pub matrix : Setup → Lent
+matrix S = elements (S .M) (S .n * dim S)
 
 -- POINTS: the points matrix into a lent matrix. "15: points matrix with d + n above p"
 abbrev pub pointsRules : Setup → List Rule
-pointsRules S = limits S ++ size (S .M) (S .n * dim S) ∷ (15 when ltb (S .p) (dim S + S .n)) ∷ []
+pointsRules S = table S (room (length (S .M)) (S .n * dim S) ∷ []) ((15 when ltb (S .p) (dim S + S .n)) ∷ [])
 
 abbrev pub pointsCall : Setup → Answer
 pointsCall S = answerBy (refusal (pointsRules S)) (given [])
@@ -48,16 +71,12 @@ abbrev pub pointsLeft : Setup → List ℕ
 pointsLeft S = leftBy (refusal (pointsRules S)) (pointsMatrix (S .p) (dim S) (S .n)) (S .M)
 
 -- DEAL to one holder, into the lent g and h; the secrets by vector, position k of vector b at b * ℓ + k
-abbrev pub dealInputs : Setup → List ℕ → List ℕ → List Rule
-dealInputs S secrets random =
-    limits S ++ size (S .M) (S .n * dim S) ∷ size secrets (S .l * S .l) ∷ size random (dim S * dim S - S .l * S .l) ∷ []
-
-abbrev pub dealElements : Setup → List ℕ → List ℕ → List Rule
-dealElements S secrets random = elements (S .p) (S .M) ∷ elements (S .p) secrets ∷ elements (S .p) random ∷ []
+abbrev pub dealLent : Setup → List ℕ → List ℕ → List Lent
+dealLent S secrets random = matrix S ∷ elements secrets (S .l * S .l) ∷ elements random (dim S * dim S - S .l * S .l) ∷ []
 
 abbrev pub dealRules : Setup → List ℕ → List ℕ → ℕ → List ℕ → List ℕ → List Rule
 dealRules S secrets random i g h =
-    dealInputs S secrets random ++ size g (dim S) ∷ size h (dim S) ∷ dealElements S secrets random ++ (5 when leb (S .n) i) ∷ []
+    table S (dealLent S secrets random ++ room (length g) (dim S) ∷ room (length h) (dim S) ∷ []) ((5 when leb (S .n) i) ∷ [])
 
 abbrev pub dealCall : Setup → List ℕ → List ℕ → ℕ → List ℕ → List ℕ → Answer
 dealCall S secrets random i g h = answerBy (refusal (dealRules S secrets random i g h)) (given [])
@@ -71,7 +90,7 @@ dealLeftH S secrets random i g h = leftBy (refusal (dealRules S secrets random i
 -- DEAL TO ALL: every holder's g, one after the other, and every holder's h
 abbrev pub dealAllRules : Setup → List ℕ → List ℕ → List ℕ → List ℕ → List Rule
 dealAllRules S secrets random gs hs =
-    dealInputs S secrets random ++ size gs (S .n * dim S) ∷ size hs (S .n * dim S) ∷ dealElements S secrets random
+    table S (dealLent S secrets random ++ room (length gs) (S .n * dim S) ∷ room (length hs) (S .n * dim S) ∷ []) []
 
 abbrev pub dealAllCall : Setup → List ℕ → List ℕ → List ℕ → List ℕ → Answer
 dealAllCall S secrets random gs hs = answerBy (refusal (dealAllRules S secrets random gs hs)) (given [])
@@ -86,18 +105,14 @@ dealAllLeftH S secrets random gs hs =
 
 -- PAIR VALUE of the holder with row part g, for holder i
 abbrev pub pairValueRules : Setup → List ℕ → ℕ → List Rule
-pairValueRules S g i =
-    limits S ++ size (S .M) (S .n * dim S) ∷ size g (dim S)
-    ∷ elements (S .p) (S .M) ∷ elements (S .p) g ∷ (5 when leb (S .n) i) ∷ []
+pairValueRules S g i = table S (matrix S ∷ elements g (dim S) ∷ []) ((5 when leb (S .n) i) ∷ [])
 
 abbrev pub pairValueCall : Setup → List ℕ → ℕ → Answer
 pairValueCall S g i = answerBy (refusal (pairValueRules S g i)) (given (pairValue S g i ∷ []))
 
 -- JUDGE, on the column part h and the n values received
 abbrev pub judgeRules : Setup → List ℕ → List ℕ → List Rule
-judgeRules S h values =
-    limits S ++ size (S .M) (S .n * dim S) ∷ size h (dim S) ∷ size values (S .n)
-    ∷ elements (S .p) (S .M) ∷ elements (S .p) h ∷ elements (S .p) values ∷ []
+judgeRules S h values = table S (matrix S ∷ elements h (dim S) ∷ elements values (S .n) ∷ []) []
 
 abbrev pub judgeCall : Setup → List ℕ → List ℕ → Answer
 judgeCall S h values = answerBy (refusal (judgeRules S h values)) (judge S h values)
@@ -105,8 +120,7 @@ judgeCall S h values = answerBy (refusal (judgeRules S h values)) (judge S h val
 -- OUTCOME, on the row part g and the n verdicts received, into ℓ lent shares; it needs no matrix. "12: verdict neither 0 nor 1"
 abbrev pub outcomeRules : Setup → List ℕ → List ℕ → List ℕ → List Rule
 outcomeRules S g verdicts out =
-    limits S ++ size g (dim S) ∷ size verdicts (S .n) ∷ size out (S .l)
-    ∷ elements (S .p) g ∷ (12 when not (allBelow 2 verdicts)) ∷ []
+    table S (elements g (dim S) ∷ room (length verdicts) (S .n) ∷ room (length out) (S .l) ∷ []) ((12 when not (allBelow 2 verdicts)) ∷ [])
 
 abbrev pub outcomeCall : Setup → List ℕ → List ℕ → List ℕ → Answer
 outcomeCall S g verdicts out = answerBy (refusal (outcomeRules S g verdicts out)) (outcome S verdicts)
@@ -118,9 +132,7 @@ outcomeLeft S g verdicts out =
 
 -- REHEARSE, on all n parts
 abbrev pub rehearseRules : Setup → List ℕ → List ℕ → List Rule
-rehearseRules S gs hs =
-    limits S ++ size (S .M) (S .n * dim S) ∷ size gs (S .n * dim S) ∷ size hs (S .n * dim S)
-    ∷ elements (S .p) (S .M) ∷ elements (S .p) gs ∷ elements (S .p) hs ∷ []
+rehearseRules S gs hs = table S (matrix S ∷ elements gs (S .n * dim S) ∷ elements hs (S .n * dim S) ∷ []) []
 
 abbrev pub rehearseCall : Setup → List ℕ → List ℕ → Answer
 rehearseCall S gs hs = answerBy (refusal (rehearseRules S gs hs)) (rehearse S gs hs)
@@ -130,7 +142,7 @@ abbrev pub beyond : ℕ → ℕ → Bool
 beyond n s = leb (2 ^ n) s
 
 abbrev pub setRules : Setup → ℕ → List Rule
-setRules S s = limits S ++ size (S .M) (S .n * dim S) ∷ elements (S .p) (S .M) ∷ (5 when beyond (S .n) s) ∷ []
+setRules S s = table S (matrix S ∷ []) ((5 when beyond (S .n) s) ∷ [])
 
 abbrev pub decide : Bool → Answer
 decide b = pick b yes no
@@ -143,8 +155,7 @@ privateCall S s = answerBy (refusal (setRules S s)) (decide (isPrivate S (holds 
 
 -- JUDGE A SET at position q, into a lent buffer of 32 entries
 abbrev pub judgeSetRules : Setup → ℕ → ℕ → List ℕ → List Rule
-judgeSetRules S s q out =
-    limits S ++ size (S .M) (S .n * dim S) ∷ size out 32 ∷ elements (S .p) (S .M) ∷ (5 when beyond (S .n) s) ∷ (5 when leb (S .l) q) ∷ []
+judgeSetRules S s q out = table S (matrix S ∷ room (length out) 32 ∷ []) ((5 when beyond (S .n) s) ∷ (5 when leb (S .l) q) ∷ [])
 
 abbrev pub judgeSetCall : Setup → ℕ → ℕ → List ℕ → Answer
 judgeSetCall S s q out = answerBy (refusal (judgeSetRules S s q out)) (kind S (holds s) q)
@@ -161,8 +172,7 @@ pub data JudgeSetLeft (S : Setup) (X : ℕ → Bool) (q : ℕ) : Answer → List
 -- OPEN, by the set s and its shares by rising holder, into ℓ lent secrets
 abbrev pub openRules : Setup → ℕ → List ℕ → List ℕ → List Rule
 openRules S s xs out =
-    limits S ++ size (S .M) (S .n * dim S) ∷ size xs (length (members 32 (holds s))) ∷ size out (S .l)
-    ∷ elements (S .p) (S .M) ∷ elements (S .p) xs ∷ (5 when beyond (S .n) s) ∷ []
+    table S (matrix S ∷ elements xs (length (members 32 (holds s))) ∷ room (length out) (S .l) ∷ []) ((5 when beyond (S .n) s) ∷ [])
 
 -- the secrets stand in the buffer; refusals 6 and 7 are the opening's own
 abbrev pub openAnswer : Answer → Answer
@@ -178,8 +188,8 @@ openLeft S s xs out =
 -- COMBINE. "3: a lent length isn't the one needed, over 64 terms"; "14: a combination with both lists empty"
 abbrev pub combineRules : ℕ → List ℕ → List ℕ → List Rule
 combineRules p cs xs =
-    (1 when not (isField p)) ∷ size xs (length cs) ∷ (3 when ltb 64 (length cs))
-    ∷ elements p cs ∷ elements p xs ∷ (14 when eqb (length cs) 0 && eqb (length xs) 0) ∷ []
+    (1 when not (isField p)) ∷ size (length xs) (length cs) ∷ (3 when ltb 64 (length cs))
+    ∷ beyondField p cs ∷ beyondField p xs ∷ (14 when eqb (length cs) 0 && eqb (length xs) 0) ∷ []
 
 abbrev pub combineCall : ℕ → List ℕ → List ℕ → Answer
 combineCall p cs xs = answerBy (refusal (combineRules p cs xs)) (given (combine p cs xs ∷ []))

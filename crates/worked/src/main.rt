@@ -289,7 +289,13 @@ fn set_of_example(set: u16) {
     number(set);
     say(b" at position 0:");
     let mut found = [9u16; 32];
-    let answer = set_questions::judge_set(example(), &[6, 2, 5, 3, 4, 4], set as u32, 0, &mut found);
+    let answer = set_questions::judge_set(
+        example(),
+        &[6, 2, 5, 3, 4, 4],
+        set as u32,
+        0,
+        &mut found,
+    );
     set_judged(answer, &found);
 }
 
