@@ -17,14 +17,17 @@ use Rattle.base.proofs.Matrix.{below-is}
 use Rattle.base.proofs.Search.{every-at, every-all, first-is, firstVec-sound, firstVec-complete}
 use Rattle.field.specs.Fields.{isField}
 use Rattle.scheme.specs.Setup.{Setup, dim, IsSetup}
-use Rattle.scheme.specs.Answers.{kept, aborted, fair, disagree, isARow, isAVector, isNeither, yes, no, undetermined, inconsistent}
-use Rattle.scheme.specs.Dealing.{differs, judge, saidReject, isKept, outcome, pairValue, disagrees, rehearse}
+use Rattle.scheme.specs.declared.Judgement.{Judgement}
+use Rattle.scheme.specs.declared.Judgement.the-variants.{Accept, Reject}
+use Rattle.scheme.specs.declared.Fate.{Fate}
+use Rattle.scheme.specs.declared.Fate.the-variants.{Kept, Aborted}
+use Rattle.scheme.specs.Answers.{paperJudgement, paperFate, fair, disagree, isARow, isAVector, isNeither, yes, no, undetermined, inconsistent}
+use Rattle.scheme.specs.Dealing.{judgementOf, fateOf, pairValue, disagrees, rehearse}
 use Rattle.scheme.specs.Sets.{holds, members, hasRow, hasSweep, kind, determines, isPrivate}
 use Rattle.scheme.specs.Opening.{gives, opening, openedBy, combine}
 use Rattle.scheme.specs.Calls.{decide, pointsRules, dealRules, dealAllRules, pairValueRules, judgeRules, outcomeRules, rehearseRules, setRules, judgeSetRules, openRules, openCall, combineRules}
 use Rattle.scheme.specs.Answering.{Marked, AllMarked, Answers, Behind, OpenAnswers, Answering}
 use Rattle.scheme.proofs.Calls.{points-accepts, deal-accepts, dealAll-accepts, pairValue-accepts, judge-accepts, outcome-accepts, rehearse-accepts, set-accepts, judgeSet-accepts, open-by-shares, combine-accepts}
-use Rattle.scheme.proofs.Verdicts.{accept-when, reject-when}
 use Rattle.scheme.proofs.Members.{members-wide}
 use Rattle.scheme.proofs.Certificates.{by-search, undetermined-in-hand}
 
@@ -41,17 +44,15 @@ choice-given : (b : Bool) (x y : Answer) → Given x → Given y → Given (pick
 choice-given true x y a c = a
 choice-given false x y a c = c
 
-judge-given : (S : Setup) (h values : List ℕ) → Given (judge S h values)
-unfolding Given differs
-judge-given S h values = go (first (differs S h values) (S .n)) (first-is (differs S h values) (S .n))
-  where
-    go : (r : ℕ) → First (differs S h values) (S .n) r → Given (judge S h values)
-    go r (found l t below) = rw (reject-when S h values r l t below)
-    go r (missing e all) = rw (accept-when S h values (λ j l. eqb-true _ _ (not-false _ (all j l))))
+judgement-given : (j : Judgement) → Given (paperJudgement j)
+unfolding Given
+judgement-given Accept = refl
+judgement-given (Reject j) = refl
 
-outcome-given : (S : Setup) (verdicts : List ℕ) → Given (outcome S verdicts)
-unfolding Given outcome
-outcome-given S verdicts = choice-given (isKept S verdicts) kept (aborted (first (saidReject verdicts) (S .n))) refl refl
+fate-given : (f : Fate) → Given (paperFate f)
+unfolding Given
+fate-given Kept = refl
+fate-given (Aborted i) = refl
 
 rehearse-given : (S : Setup) (gs hs : List ℕ) → Given (rehearse S gs hs)
 unfolding Given rehearse
@@ -118,8 +119,8 @@ all-marked =
       deal = λ S secrets random i g h. marked-by (refusal (dealRules S secrets random i g h)) (given []) refl;
       deal-all = λ S secrets random gs hs. marked-by (refusal (dealAllRules S secrets random gs hs)) (given []) refl;
       pair-value = λ S g i. marked-by (refusal (pairValueRules S g i)) (given (pairValue S g i ∷ [])) refl;
-      judge = λ S h values. marked-by (refusal (judgeRules S h values)) _ (marked-given _ (judge-given S h values));
-      outcome = λ S g verdicts out. marked-by (refusal (outcomeRules S g verdicts out)) _ (marked-given _ (outcome-given S verdicts));
+      judge = λ S h values. marked-by (refusal (judgeRules S h values)) _ (marked-given _ (judgement-given (judgementOf S h values)));
+      outcome = λ S g verdicts out. marked-by (refusal (outcomeRules S g verdicts out)) _ (marked-given _ (fate-given (fateOf S verdicts)));
       rehearse = λ S gs hs. marked-by (refusal (rehearseRules S gs hs)) _ (marked-given _ (rehearse-given S gs hs));
       determines = λ S s. marked-by (refusal (setRules S s)) _ (marked-given _ (decide-given (determines S (holds s))));
       private = λ S s. marked-by (refusal (setRules S s)) _ (marked-given _ (decide-given (isPrivate S (holds s))));
@@ -178,9 +179,9 @@ answering =
       pair-value = λ S g i ok v l.
           answers-by (refusal (pairValueRules S g i)) _ (pairValue-accepts S g i (record { setup = ok; part = v; to = l })) (given-given _);
       judge = λ S h values ok v r.
-          answers-by (refusal (judgeRules S h values)) _ (judge-accepts S h values (record { setup = ok; part = v; received = r })) (judge-given S h values);
+          answers-by (refusal (judgeRules S h values)) _ (judge-accepts S h values (record { setup = ok; part = v; received = r })) (judgement-given (judgementOf S h values));
       outcome = λ S g verdicts out L v w room.
-          answers-by (refusal (outcomeRules S g verdicts out)) _ (outcome-accepts S g verdicts out (record { limits = L; part = v; heard = w; room = room })) (outcome-given S verdicts);
+          answers-by (refusal (outcomeRules S g verdicts out)) _ (outcome-accepts S g verdicts out (record { limits = L; part = v; heard = w; room = room })) (fate-given (fateOf S verdicts));
       rehearse = λ S gs hs ok v w.
           answers-by (refusal (rehearseRules S gs hs)) _ (rehearse-accepts S gs hs (record { setup = ok; rows = v; columns = w })) (rehearse-given S gs hs);
       determines = λ S s ok l. answers-by (refusal (setRules S s)) _ (set-accepts S s (record { setup = ok; inside = l })) (decide-given (determines S (holds s)));

@@ -28,8 +28,8 @@ use Rattle.field.specs.Prime.{Prime}
 use Rattle.field.specs.Dot.{at, dot}
 use Rattle.field.proofs.Dot.{dot-comm, dot-ext, dot-mod-right, dot-assoc, row-reads}
 use Rattle.scheme.specs.Setup.{Setup, dim, row}
-use Rattle.scheme.specs.Answers.{accepts, kept, yes, no, inconsistent}
-use Rattle.scheme.specs.Dealing.{place, dealtEntry, dealt, partG, partH, pairValue, expected, judge, outcome, shares}
+use Rattle.scheme.specs.Answers.{accepts, kept, yes, no, inconsistent, paperJudgement}
+use Rattle.scheme.specs.Dealing.{place, dealtEntry, dealt, partG, partH, pairValue, expected, judge, fateOf, outcome, shares}
 use Rattle.scheme.specs.Sets.{holds, members, rowAt, hasRow, determines}
 use Rattle.scheme.specs.Opening.{gives, opening, openedBy, combine}
 use Rattle.scheme.specs.Calls.{decide, judgeCall, judgeRules, outcomeRules, determinesCall, setRules, openRules, openCall, openLeft, openAnswer, combineRules, combineCall, pairValueRules, dealRules}
@@ -460,7 +460,7 @@ module _ (S : Setup) (secrets random : List ℕ) (D : Dealing) (hon : Honest S s
   accepted : (i : ℕ) → i < S .n → judgeCall S (D .h i) (D .values i) ≡ accepts
   accepted i l =
       rw (judge-accepts S (D .h i) (D .values i) (record { setup = dealing-ok i l .setup; part = part-h′ i l; received = values-ok i l }))
-      (accept-when S (D .h i) (D .values i) (λ j m. pair-right i j l m))
+      (ap paperJudgement (accept-when S (D .h i) (D .values i) (λ j m. pair-right i j l m)))
 
   all-said : (i j : ℕ) → i < S .n → j < S .n → at (D .verdicts i) j ≡ 1
   all-said i j l m = hon .said i j l m ∙ ap (λ (a : Answer). at (a .values) 0) (accepted j m)
@@ -470,7 +470,7 @@ module _ (S : Setup) (secrets random : List ℕ) (D : Dealing) (hon : Honest S s
       record {
         judged = accepted i l;
         lent = hon .lent;
-        settled = rw fine (unfold outcome in rw (kept-when S (D .verdicts i) (λ j m. all-said i j l m)));
+        settled = rw fine (unfold fateOf in rw (kept-when S (D .verdicts i) (λ j m. all-said i j l m)));
         share = hon .share i l;
       }
     where

@@ -18,7 +18,7 @@ use Rattle.field.specs.Fields.{isField}
 use Rattle.field.specs.Dot.{at, dot}
 use Rattle.scheme.specs.Setup.{Setup, Limits}
 use Rattle.scheme.specs.Answers.{inconsistent}
-use Rattle.scheme.specs.Dealing.{place, dealtEntry, dealt, pairValue, expected, differs, judge, saidReject, isKept, outcome}
+use Rattle.scheme.specs.Dealing.{place, dealtEntry, dealt, pairValue, expected, differs, judgementOf, saidReject, isKept, fateOf}
 use Rattle.scheme.specs.Sets.{members, membersFrom, isRow, findRow, hasRow, determines}
 use Rattle.scheme.specs.Opening.{gives, opening, combine}
 use Rattle.scheme.specs.Calls.{pairValueCall, openCall, openLeft}
@@ -91,7 +91,7 @@ Sent : Bool → ℕ → ℕ → Type 0
 Sent t i j = pairValueCall four (dealings t .g j) i ≡ given (at (dealings t .values i) j ∷ [])
 
 pub done : Done four 7 dealings
-unfolding sum bit unit every first firstFrom firstOf firstVec tab tabFrom allBelow isField dot pairValue expected differs judge saidReject isKept outcome members membersFrom isRow findRow hasRow determines Sent
+unfolding sum bit unit every first firstFrom firstOf firstVec tab tabFrom allBelow isField dot pairValue expected differs judgementOf saidReject isKept fateOf members membersFrom isRow findRow hasRow determines Sent
 done = record { determined = refl; keepers = keep; delivered = λ t i j mi mj. sent t i mi j mj }
   where
     keep : (t : Bool) (i : ℕ) → Member four 7 i → Keeps four (dealings t) i

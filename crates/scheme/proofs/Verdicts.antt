@@ -12,37 +12,34 @@ use Rattle.base.specs.Search.{first}
 use Rattle.base.proofs.Search.{missing-all, first-missing, first-found}
 use Rattle.field.specs.Dot.{at}
 use Rattle.scheme.specs.Setup.{Setup}
-use Rattle.scheme.specs.Answers.{accepts, rejects, kept, aborted}
-use Rattle.scheme.specs.Dealing.{expected, differs, judge, saidReject, isKept, outcome}
+use Rattle.scheme.specs.declared.Judgement.the-variants.{Accept, Reject}
+use Rattle.scheme.specs.declared.Fate.the-variants.{Kept, Aborted}
+use Rattle.scheme.specs.Answers.{accepts, kept, paperJudgement, paperFate}
+use Rattle.scheme.specs.Dealing.{expected, differs, judgementOf, judge, saidReject, isKept, fateOf, outcome}
 
 -- an answer whose first value is 1 is the one behind the test
-choose : (b : Bool) (j : ℕ) → pick b (rejects j) accepts ≡ accepts → b ≡ false
+choose : (b : Bool) (j : ℕ) → paperJudgement (pick b (Reject j) Accept) ≡ accepts → b ≡ false
 choose true j e = absurd (let z : _≡_ {A = ℕ} 0 1 = ap (λ (a : Answer). at (a .values) 0) e in omega arith)
 choose false j e = refl
 
 pub accept-means : (S : Setup) (h values : List ℕ) → judge S h values ≡ accepts → (j : ℕ) → j < S .n → at values j ≡ expected S h j
-unfolding judge differs
+unfolding judgementOf differs
 accept-means S h values e j l =
     let t = first (differs S h values) (S .n) in
     let none : S .n ≤ t = ltb-false t (S .n) (choose (ltb t (S .n)) t e) in
     eqb-true (at values j) (expected S h j) (not-false (eqb (at values j) (expected S h j)) (missing-all (differs S h values) (S .n) none j l))
 
-pub accept-when : (S : Setup) (h values : List ℕ) → ((j : ℕ) → j < S .n → at values j ≡ expected S h j) → judge S h values ≡ accepts
-unfolding judge differs
+pub accept-when : (S : Setup) (h values : List ℕ) → ((j : ℕ) → j < S .n → at values j ≡ expected S h j) → judgementOf S h values ≡ Accept
+unfolding judgementOf differs
 accept-when S h values q =
     let none = first-missing (differs S h values) (S .n) (λ j l. ap not (eq-eqb (at values j) (expected S h j) (q j l))) in
     rw (none, le-ltb (S .n) (S .n) (omega arith))
 
-pub reject-when : (S : Setup) (h values : List ℕ) (j : ℕ) → j < S .n → differs S h values j ≡ true → ((k : ℕ) → k < j → differs S h values k ≡ false)
-    → judge S h values ≡ rejects j
-unfolding judge
-reject-when S h values j l t below = rw (first-found (differs S h values) (S .n) j l t below, lt-ltb j (S .n) l)
-
 pub kept-means : (S : Setup) (verdicts : List ℕ) → outcome S verdicts ≡ kept → isKept S verdicts ≡ true
-unfolding outcome
+unfolding fateOf
 kept-means S verdicts = go (isKept S verdicts)
   where
-    go : (b : Bool) → pick b kept (aborted (first (saidReject verdicts) (S .n))) ≡ kept → b ≡ true
+    go : (b : Bool) → paperFate (pick b Kept (Aborted (first (saidReject verdicts) (S .n)))) ≡ kept → b ≡ true
     go true e = refl
     go false e = absurd (let z : _≡_ {A = ℕ} 0 1 = ap (λ (a : Answer). at (a .values) 0) e in omega arith)
 

@@ -4,8 +4,8 @@
 -- partG, partH: holder i's part
 -- pairValue: the pair value for i of the holder whose row part is g
 -- expected: what the value from j has to be for the holder whose column part is h
--- judge: a holder's judgement of the n values it received
--- isKept, outcome, shares: the end of a dealing, from the n verdicts received
+-- judgementOf: a holder's judgement of the n values it received; judge: as document 01 has it
+-- isKept, fateOf, shares: the end of a dealing, from the n verdicts received; outcome: as document 01 has it
 -- rehearse: the dealer's rehearsal on all n parts
 use mathlib.Core.Bool.{Bool, not, _&&_}
 use mathlib.Core.List.{List, []}
@@ -19,7 +19,11 @@ use Rattle.base.specs.Fill.{tab}
 use Rattle.base.specs.Matrix.{entry, flat}
 use Rattle.field.specs.Dot.{at, dot}
 use Rattle.scheme.specs.Setup.{Setup, dim, row}
-use Rattle.scheme.specs.Answers.{accepts, rejects, kept, aborted, fair, disagree}
+use Rattle.scheme.specs.declared.Judgement.{Judgement}
+use Rattle.scheme.specs.declared.Judgement.the-variants.{Accept, Reject}
+use Rattle.scheme.specs.declared.Fate.{Fate}
+use Rattle.scheme.specs.declared.Fate.the-variants.{Kept, Aborted}
+use Rattle.scheme.specs.Answers.{paperJudgement, paperFate, fair, disagree}
 
 -- 1. "F has d rows and d columns. Its entry in row k and column b, both below ℓ, is position k of secret vector b. The other entries are the
 -- lent random ones, row by row": e of them in each row below ℓ, then d in each
@@ -51,8 +55,11 @@ expected S h j = dot (dim S) (row S j) (at h) % S .p
 unfoldable pub differs : Setup → List ℕ → List ℕ → ℕ → Bool
 differs S h values j = not (eqb (at values j) (expected S h j))
 
-unfoldable pub judge : Setup → List ℕ → List ℕ → Answer
-judge S h values = let j = first (differs S h values) (S .n) in pick (ltb j (S .n)) (rejects j) accepts
+unfoldable pub judgementOf : Setup → List ℕ → List ℕ → Judgement
+judgementOf S h values = let j = first (differs S h values) (S .n) in pick (ltb j (S .n)) (Reject j) Accept
+
+abbrev pub judge : Setup → List ℕ → List ℕ → Answer
+judge S h values = paperJudgement (judgementOf S h values)
 
 -- 5. "If all n verdicts are accept, holder i keeps g_i[b] as its share of column b, for b below ℓ. Otherwise the outcome is aborted, naming the
 -- lowest holder that said reject"
@@ -62,8 +69,11 @@ saidReject verdicts i = not (eqb (at verdicts i) 1)
 unfoldable pub isKept : Setup → List ℕ → Bool
 isKept S verdicts = not (ltb (first (saidReject verdicts) (S .n)) (S .n))
 
-unfoldable pub outcome : Setup → List ℕ → Answer
-outcome S verdicts = pick (isKept S verdicts) kept (aborted (first (saidReject verdicts) (S .n)))
+unfoldable pub fateOf : Setup → List ℕ → Fate
+fateOf S verdicts = pick (isKept S verdicts) Kept (Aborted (first (saidReject verdicts) (S .n)))
+
+abbrev pub outcome : Setup → List ℕ → Answer
+outcome S verdicts = paperFate (fateOf S verdicts)
 
 abbrev pub shares : Setup → List ℕ → List ℕ
 shares S g = take (S .l) g
