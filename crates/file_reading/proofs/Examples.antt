@@ -11,7 +11,7 @@ use Rattle.field.specs.Fields.{isField}
 use Rattle.field.specs.Dot.{dot}
 use Rattle.scheme.specs.Dealing.{expected, differs, saidReject, isKept}
 use Rattle.scheme.proofs.Cases.{ex}
-use Rattle.record_words.specs.Words.{bytes, wordsAt}
+use Rattle.record_layouts.specs.Words.{bytes, wordsAt}
 use Rattle.file_records.specs.Received.{pairFault, verdictFault, markFault, stepPair, stepVerdict, step, readFor}
 use Rattle.file_reading.specs.Contents.{Contents, judgementOf, fateOf, fileBytes}
 use Rattle.file_reading.specs.File.{whole, refusedAt, setupFault, dealingFault, complete, lowered, ofContents, ofEnd, ofReceived, ofDealing, readFile}

@@ -11,7 +11,7 @@ use lib.ListN.{length, drop, length-append, length-drop, List·getD-append}
 use lib.Seq.{drop-append-le}
 use Rattle.base.proofs.Fill.{tab-ext}
 use Rattle.scheme.specs.Setup.{Setup, dim}
-use Rattle.record_words.specs.Words.{wordAt, wordsAt}
+use Rattle.record_layouts.specs.Words.{wordAt, wordsAt}
 use Rattle.record_layouts.specs.declared.DealingRecord.{DealingRecord}
 use Rattle.record_layouts.specs.Records.{setupSize, dealingSize, setupAt, dealingAt, dealingG, dealingH}
 use Rattle.record_layouts.proofs.Calls.{setup-read}

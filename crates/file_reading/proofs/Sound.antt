@@ -32,8 +32,8 @@ use Rattle.scheme.specs.Demand.{Dealing, Honest}
 use Rattle.scheme.proofs.Calls.{limits-clear, limits-pos, below-vec, elements-clear, deal-ok, judge-ok, outcome-ok}
 use Rattle.scheme.proofs.Verdicts.{kept-means}
 use Rattle.scheme.proofs.Demand.{demand3}
-use Rattle.record_words.specs.Words.{bytes, Bytes}
-use Rattle.record_words.proofs.Words.{length-bytes, word-of}
+use Rattle.record_layouts.specs.Words.{bytes, Bytes}
+use Rattle.record_layouts.proofs.Words.{length-bytes, word-of}
 use Rattle.record_layouts.specs.declared.DealingRecord.{DealingRecord}
 use Rattle.record_layouts.specs.declared.PairRecord.{PairRecord}
 use Rattle.record_layouts.specs.declared.VerdictRecord.{VerdictRecord}

@@ -32,8 +32,8 @@ use Rattle.scheme.specs.Calls.{outcomeRules, outcomeLeft}
 use Rattle.scheme.proofs.Calls.{limits-pos}
 use Rattle.scheme.specs.Dealing.{differs, judge, saidReject, isKept, outcome}
 use Rattle.record_layouts.specs.declared.DealingRecord.{DealingRecord}
-use Rattle.record_words.specs.Words.{wordAt, wordsAt}
-use Rattle.record_words.proofs.Words.{length-words}
+use Rattle.record_layouts.specs.Words.{wordAt, wordsAt}
+use Rattle.record_layouts.proofs.Words.{length-words}
 use Rattle.record_layouts.specs.Records.{markSU, setupAt, setupSize, dealingSize, dealingAt, dealingG, dealingH, readSetupRules}
 use Rattle.record_layouts.specs.Records.{readDealingRules}
 use Rattle.base.proofs.Rules.{clear}

@@ -16,8 +16,8 @@ use Rattle.base.specs.Choice.{pick}
 use Rattle.field.specs.Dot.{at}
 use Rattle.scheme.specs.Setup.{Setup, dim, IsSetup}
 use Rattle.scheme.proofs.Calls.{limits-pos}
-use Rattle.record_words.specs.Words.{Bytes}
-use Rattle.record_words.proofs.Words.{length-words}
+use Rattle.record_layouts.specs.Words.{Bytes}
+use Rattle.record_layouts.proofs.Words.{length-words}
 use Rattle.record_layouts.specs.declared.DealingRecord.{DealingRecord}
 use Rattle.record_layouts.specs.Records.{setupAt, setupSize, dealingSize, dealingAt, dealingG, dealingH}
 use Rattle.record_layouts.proofs.Calls.{setup-read}

@@ -18,7 +18,7 @@ use Rattle.scheme.specs.declared.Fate.{Fate}
 use Rattle.scheme.specs.declared.Fate.the-variants.{Kept, Aborted}
 use Rattle.scheme.specs.Setup.{Setup, dim, IsSetup}
 use Rattle.scheme.specs.Dealing.{differs, saidReject, isKept, shares}
-use Rattle.record_words.specs.Words.{bytes}
+use Rattle.record_layouts.specs.Words.{bytes}
 use Rattle.record_layouts.specs.Records.{setupWords, dealingWords}
 use Rattle.file_records.specs.Received.{Received, pair, verdict, body}
 

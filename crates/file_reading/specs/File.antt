@@ -21,7 +21,7 @@ use Rattle.base.specs.Fill.{tab}
 use Rattle.field.specs.Dot.{at}
 use Rattle.scheme.specs.declared.Params.{Params}
 use Rattle.scheme.specs.Setup.{Setup, dim}
-use Rattle.record_words.specs.Words.{wordAt}
+use Rattle.record_layouts.specs.Words.{wordAt}
 use Rattle.record_layouts.specs.declared.DealingRecord.{DealingRecord}
 use Rattle.record_layouts.specs.Records.{markSU, setupAt, setupSize, dealingSize, dealingAt, dealingG, dealingH, readSetupRules, readDealingRules}
 use Rattle.file_records.specs.declared.Head.{Head}

@@ -11,7 +11,7 @@ use Rattle.scheme.specs.declared.Judgement.the-variants.{Accept}
 use Rattle.scheme.specs.declared.Fate.the-variants.{Kept}
 use Rattle.scheme.specs.Setup.{Setup}
 use Rattle.scheme.specs.Demand.{Dealing, Honest}
-use Rattle.record_words.specs.Words.{Bytes}
+use Rattle.record_layouts.specs.Words.{Bytes}
 use Rattle.file_reading.specs.Contents.{Contents, InOrder, judgement, fate, keptShares, fileBytes}
 use Rattle.file_reading.specs.File.{whole, readFile}
 

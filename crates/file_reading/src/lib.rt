@@ -9,7 +9,7 @@ ghost use Rattle.base.specs.Rules.{refusal};
 ghost use Rattle.base.specs.Search.{Vec};
 ghost use Rattle.scheme.specs.declared.Judged.the-variants.{As};
 ghost use Rattle.scheme.specs.Setup.{Limits, setupOf};
-ghost use Rattle.record_words.specs.Words.{wordAt, wordsAt};
+ghost use Rattle.record_layouts.specs.Words.{wordAt, wordsAt};
 ghost use Rattle.record_layouts.specs.Records.{markSU, setupSize, dealingSize};
 ghost use Rattle.file_records.specs.Received.{Bounded};
 ghost use Rattle.file_reading.specs.Contents.{judgementOf, verdictOf};
@@ -88,7 +88,7 @@ fn setup_fault(file: &[u8]) -> u16
     if file.len() == 0 {
         return 11;
     }
-    record_reading::read_setup_refusal(file)
+    record_layouts::setup_refusal(file)
 }
 
 // The first len words from word 5 on, then zeros.
@@ -97,7 +97,7 @@ fn matrix_at(file: &[u8], len: usize) -> [u16; 512]
     ensures { λ r. ⌜ (length r ≡ 512) × (take len r ≡ wordsAt (now (file .entry)) 5 len) ⌝ }
 {
     let mut matrix = [0u16; 512];
-    record_words::get_words(file, 5, &mut matrix[..len]);
+    record_layouts::get_words(file, 5, &mut matrix[..len]);
     matrix
 }
 
@@ -106,7 +106,7 @@ fn read_setup(file: &[u8]) -> SetupPart
     ensures { λ r. ⌜ ReadsSetup (now (file .entry)) r ⌝ }
 {
     let refusal = setup_fault(file);
-    let setup = record_reading::params_at(file);
+    let setup = record_layouts::params_at(file);
     if refusal != 0 {
         return SetupPart {
             refusal,
@@ -129,7 +129,7 @@ fn second_setup(t: &[u8]) -> bool
     if t.len() < 2 {
         return false;
     }
-    record_words::word(t, 0) == 0x5553
+    record_layouts::word(t, 0) == record_layouts::MARK_SU
 }
 
 // A DL that is refused.
@@ -153,7 +153,7 @@ fn part_at(t: &[u8], i: usize, d: usize) -> [u16; 16]
     ensures { λ r. ⌜ (length r ≡ 16) × (take d r ≡ wordsAt (now (t .entry)) i d) ⌝ }
 {
     let mut part = [0u16; 16];
-    record_words::get_words(t, i, &mut part[..d]);
+    record_layouts::get_words(t, i, &mut part[..d]);
     part
 }
 
@@ -170,11 +170,11 @@ fn read_dealing(s: Params, file: &[u8], at: usize) -> DealingPart
         return no_dealing(10);
     }
     let d = scheme::dim(s);
-    let refusal = record_reading::read_dealing_refusal(s, t, d, d);
+    let refusal = record_layouts::dealing_refusal(s, t, d, d);
     if refusal != 0 {
         return no_dealing(refusal);
     }
-    let record = record_reading::dealing_at(t);
+    let record = record_layouts::dealing_at(t);
     let g = part_at(t, 3, d);
     let h = part_at(t, 3 + d, d);
     DealingPart {

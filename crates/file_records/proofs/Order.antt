@@ -15,8 +15,8 @@ use lib.Seq.{drop-at}
 use lib.Dec.{ltb, leb, eqb}
 use borrow.Author.Tests.{le-ltb, lt-leb, eq-eqb, eqb-true, eqb-false}
 use Rattle.base.specs.Choice.{pick}
-use Rattle.record_words.specs.Words.{bytes}
-use Rattle.record_words.proofs.Words.{length-bytes, word-of}
+use Rattle.record_layouts.specs.Words.{bytes}
+use Rattle.record_layouts.proofs.Words.{length-bytes, word-of}
 use Rattle.record_layouts.specs.Records.{pairSize, verdictSize, pairWords, verdictWords, pairAt, verdictAt}
 use Rattle.record_layouts.specs.declared.PairRecord.{PairRecord}
 use Rattle.record_layouts.specs.declared.VerdictRecord.{VerdictRecord}

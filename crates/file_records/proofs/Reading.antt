@@ -12,7 +12,7 @@ use borrow.Author.Tests.{leb-true, leb-false, ltb-false, le-ltb, eqb-true, eqb-f
 use Rattle.base.specs.Choice.{pick}
 use Rattle.base.proofs.Rules.{clear}
 use Rattle.base.proofs.Choice.{either}
-use Rattle.record_words.specs.Words.{wordAt}
+use Rattle.record_layouts.specs.Words.{wordAt}
 use Rattle.record_layouts.specs.Records.{markPV, markVD, markSU, markDL, pairSize, verdictSize, pairAt, verdictAt}
 use Rattle.record_layouts.specs.declared.PairRecord.{PairRecord}
 use Rattle.record_layouts.specs.declared.VerdictRecord.{VerdictRecord}

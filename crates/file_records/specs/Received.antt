@@ -16,7 +16,7 @@ use lib.ListN.{length, getD, set, drop, replicate}
 use lib.Dec.{ltb, leb, eqb}
 use Rattle.base.specs.Choice.{pick}
 use Rattle.base.specs.Rules.{Rule, _when_, refusal}
-use Rattle.record_words.specs.Words.{bytes, wordAt}
+use Rattle.record_layouts.specs.Words.{bytes, wordAt}
 use Rattle.record_layouts.specs.Records.{markSU, markDL, markPV, markVD, pairSize, verdictSize, pairWords, verdictWords, pairAt, verdictAt}
 use Rattle.record_layouts.specs.declared.PairRecord.{PairRecord}
 use Rattle.record_layouts.specs.declared.VerdictRecord.{VerdictRecord}

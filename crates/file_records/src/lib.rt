@@ -30,34 +30,6 @@ fn entry(t: &[u16], i: u16) -> u16
     if k < t.len() { t[k] } else { 0 }
 }
 
-fn pair_at(t: &[u8]) -> PairRecord
-    ensures { λ r. ⌜ r ≡ pairAt (now (t .entry)) ⌝ }
-{
-    let dealing = record_words::word(t, 1);
-    let sender = record_words::word(t, 2);
-    let receiver = record_words::word(t, 3);
-    let value = record_words::word(t, 4);
-    PairRecord {
-        dealing,
-        sender,
-        receiver,
-        value,
-    }
-}
-
-fn verdict_at(t: &[u8]) -> VerdictRecord
-    ensures { λ r. ⌜ r ≡ verdictAt (now (t .entry)) ⌝ }
-{
-    let dealing = record_words::word(t, 1);
-    let holder = record_words::word(t, 2);
-    let verdict = record_words::word(t, 3);
-    VerdictRecord {
-        dealing,
-        holder,
-        verdict,
-    }
-}
-
 fn pair_fault(h: Head, x: PairRecord, had: u16) -> u16
     ensures { λ r. ⌜ r ≡ pairFault h x had ⌝ }
 {
@@ -80,10 +52,10 @@ fn verdict_fault(h: Head, x: VerdictRecord, had: u16) -> u16
 fn mark_fault(m: u16) -> u16
     ensures { λ r. ⌜ r ≡ markFault m ⌝ }
 {
-    if m == 0x5553 {
+    if m == MARK_SU {
         return 10;
     }
-    if m == 0x4C44 {
+    if m == MARK_DL {
         return 10;
     }
     8
@@ -102,7 +74,7 @@ fn take_pair(st: Seen, x: PairRecord) -> Seen
     ensures { λ r. ⌜ r ≡ takePair st x ⌝ }
 {
     let mut t = st;
-    t.at = st.at + 10;
+    t.at = st.at + PAIR_SIZE;
     let i = x.sender as usize;
     t.values[i] = x.value + 1;
     t
@@ -113,7 +85,7 @@ fn take_verdict(st: Seen, x: VerdictRecord) -> Seen
     ensures { λ r. ⌜ r ≡ takeVerdict st x ⌝ }
 {
     let mut t = st;
-    t.at = st.at + 8;
+    t.at = st.at + VERDICT_SIZE;
     let i = x.holder as usize;
     t.verdicts[i] = x.verdict + 1;
     t
@@ -123,10 +95,10 @@ fn step_pair(st: Seen, t: &[u8], h: Head) -> Seen
     requires { ⌜ (h .p ≤ 65521) × (h .n ≤ 32) × (st .at ≤ 4096) ⌝ }
     ensures { λ r. ⌜ r ≡ stepPair h (now (t .entry)) st ⌝ }
 {
-    if t.len() < 10 {
+    if t.len() < PAIR_SIZE {
         return refused(st, 3);
     }
-    let x = pair_at(t);
+    let x = record_layouts::pair_at(t);
     let had = entry(&st.values, x.sender);
     let k = pair_fault(h, x, had);
     if k == 0 {
@@ -140,10 +112,10 @@ fn step_verdict(st: Seen, t: &[u8], h: Head) -> Seen
     requires { ⌜ (h .n ≤ 32) × (st .at ≤ 4096) ⌝ }
     ensures { λ r. ⌜ r ≡ stepVerdict h (now (t .entry)) st ⌝ }
 {
-    if t.len() < 8 {
+    if t.len() < VERDICT_SIZE {
         return refused(st, 3);
     }
-    let x = verdict_at(t);
+    let x = record_layouts::verdict_at(t);
     let had = entry(&st.verdicts, x.holder);
     let k = verdict_fault(h, x, had);
     if k == 0 {
@@ -161,11 +133,11 @@ fn step(st: Seen, t: &[u8], h: Head) -> Seen
     if t.len() < 2 {
         return refused(st, 3);
     }
-    let m = record_words::word(t, 0);
-    if m == 0x5650 {
+    let m = record_layouts::word(t, 0);
+    if m == MARK_PV {
         return step_pair(st, t, h);
     }
-    if m == 0x4456 {
+    if m == MARK_VD {
         return step_verdict(st, t, h);
     }
     refused(st, mark_fault(m))

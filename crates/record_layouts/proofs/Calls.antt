@@ -17,7 +17,7 @@ use Rattle.field.specs.Fields.{isField}
 use Rattle.scheme.specs.Setup.{Setup, dim, Limits, IsSetup}
 use Rattle.scheme.specs.Calls.{limits, elements}
 use Rattle.scheme.proofs.Calls.{inside, size-is, limits-pos}
-use Rattle.record_words.proofs.Words.{length-words}
+use Rattle.record_layouts.proofs.Words.{length-words}
 use Rattle.record_layouts.specs.declared.DealingRecord.{DealingRecord}
 use Rattle.record_layouts.specs.declared.PairRecord.{PairRecord}
 use Rattle.record_layouts.specs.declared.VerdictRecord.{VerdictRecord}

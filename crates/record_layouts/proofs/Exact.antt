@@ -13,8 +13,8 @@ use Rattle.base.proofs.Rules.{none-applies, not-refused, positive, clear, clear
 use Rattle.scheme.specs.Setup.{Setup, dim}
 use Rattle.scheme.specs.Calls.{limits, size, elements}
 use Rattle.scheme.proofs.Calls.{size-clear}
-use Rattle.record_words.specs.Words.{bytes, wordAt, Bytes}
-use Rattle.record_words.proofs.Words.{Shows, shows-append, shows-words, length-words, bytes-shown}
+use Rattle.record_layouts.specs.Words.{bytes, wordAt, Bytes}
+use Rattle.record_layouts.proofs.Words.{Shows, shows-append, shows-words, length-words, bytes-shown}
 use Rattle.record_layouts.specs.Records.{markSU, markDL, markPV, markVD, markSH, setupWords, dealingWords, setupSize, dealingSize}
 use Rattle.record_layouts.specs.Records.{setupAt, dealingAt, dealingG, dealingH, pairAt, verdictAt, shareAt, room, due, dealingFaults, pairFaults, verdictFaults, shareFaults}
 use Rattle.record_layouts.specs.Records.{writeSetupRules, writeSetupCall, writeSetupLeft, readMatrixRules, readMatrixCall}

@@ -14,8 +14,8 @@ use Rattle.base.specs.Matrix.{allBelow}
 use Rattle.base.proofs.Rules.{none-applies, not-refused, positive, clear, clear-left, clear-right, clear-both, accepted, written}
 use Rattle.scheme.specs.Setup.{Setup, dim}
 use Rattle.scheme.specs.Calls.{limits, size, elements}
-use Rattle.record_words.specs.Words.{bytes, wordAt, wordsAt}
-use Rattle.record_words.proofs.Words.{length-bytes, word-of, words-of}
+use Rattle.record_layouts.specs.Words.{bytes, wordAt, wordsAt}
+use Rattle.record_layouts.proofs.Words.{length-bytes, word-of, words-of}
 use Rattle.record_layouts.specs.declared.DealingRecord.{DealingRecord}
 use Rattle.record_layouts.specs.declared.PairRecord.{PairRecord}
 use Rattle.record_layouts.specs.declared.VerdictRecord.{VerdictRecord}

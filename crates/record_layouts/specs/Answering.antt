@@ -11,7 +11,7 @@ use lib.ListN.{length}
 use Rattle.base.specs.Search.{Vec}
 use Rattle.scheme.specs.Setup.{Setup, dim, Limits, IsSetup}
 use Rattle.scheme.specs.Answering.{Marked, Answers}
-use Rattle.record_words.specs.Words.{bytes}
+use Rattle.record_layouts.specs.Words.{bytes}
 use Rattle.record_layouts.specs.declared.DealingRecord.{DealingRecord}
 use Rattle.record_layouts.specs.declared.PairRecord.{PairRecord}
 use Rattle.record_layouts.specs.declared.VerdictRecord.{VerdictRecord}

@@ -7,7 +7,7 @@ ghost use lib.ListN.{length};
 ghost use Rattle.base.specs.Rules.{refusal};
 ghost use Rattle.scheme.specs.Setup.{setupOf};
 ghost use Rattle.scheme.specs.Answers.{paperWritten};
-ghost use Rattle.record_words.specs.Words.{bytes};
+ghost use Rattle.record_layouts.specs.Words.{bytes};
 ghost use Rattle.record_layouts.specs.Records.{setupWords, dealingWords, writeSetupRules, writeSetupCall, writeSetupLeft, writeDealingRules, writeDealingCall, writeDealingLeft};
 ghost use Rattle.record_layouts.specs.Records.{writePairRules, writePairCall, writePairLeft, writeVerdictRules, writeVerdictCall, writeVerdictLeft};
 ghost use Rattle.record_layouts.specs.Records.{writeShareRules, writeShareCall, writeShareLeft};
@@ -34,9 +34,9 @@ fn put_setup(s: Params, matrix: &[u16], out: &mut [u8])
     requires { ⌜ 2 * (5 + length (now matrix)) ≡ length (now out) ⌝ }
     ensures { λ _. ⌜ now (out .exit) ≡ bytes (setupWords (setupOf s (now (matrix .entry)))) ⌝ }
 {
-    let head = [0x5553, s.p, s.l, s.e, s.n];
-    record_words::put_words(out, 0, &head);
-    record_words::put_words(out, 5, matrix);
+    let head = [MARK_SU, s.p, s.l, s.e, s.n];
+    record_layouts::put_words(out, 0, &head);
+    record_layouts::put_words(out, 5, matrix);
 }
 
 pub fn write_setup(s: Params, matrix: &[u16], out: &mut [u8]) -> Written
@@ -67,10 +67,10 @@ fn put_dealing(x: DealingRecord, g: &[u16], h: &[u16], out: &mut [u8])
     requires { ⌜ 2 * (3 + length (now g) + length (now h)) ≡ length (now out) ⌝ }
     ensures { λ _. ⌜ now (out .exit) ≡ bytes (dealingWords x (now (g .entry)) (now (h .entry))) ⌝ }
 {
-    let head = [0x4C44, x.dealing, x.holder];
-    record_words::put_words(out, 0, &head);
-    record_words::put_words(out, 3, g);
-    record_words::put_words(out, 3 + g.len(), h);
+    let head = [MARK_DL, x.dealing, x.holder];
+    record_layouts::put_words(out, 0, &head);
+    record_layouts::put_words(out, 3, g);
+    record_layouts::put_words(out, 3 + g.len(), h);
 }
 
 pub fn write_dealing(s: Params, x: DealingRecord, g: &[u16], h: &[u16], out: &mut [u8]) -> Written
@@ -89,7 +89,7 @@ pub fn write_dealing(s: Params, x: DealingRecord, g: &[u16], h: &[u16], out: &mu
 fn write_pair_refusal(s: Params, x: PairRecord, room: usize) -> u16
     ensures { λ r. ⌜ r ≡ refusal (writePairRules (setupOf s []) x room) ⌝ }
 {
-    let a = scheme::or_size(scheme::limits_refusal(s), room, 10);
+    let a = scheme::or_size(scheme::limits_refusal(s), room, PAIR_SIZE);
     record_layouts::pair_faults(a, s, x)
 }
 
@@ -101,8 +101,8 @@ pub fn write_pair_value(s: Params, x: PairRecord, out: &mut [u8]) -> Written
     if refusal != 0 {
         return Written::Refused(refusal);
     }
-    let all = [0x5650, x.dealing, x.sender, x.receiver, x.value];
-    record_words::put_words(out, 0, &all);
+    let all = [MARK_PV, x.dealing, x.sender, x.receiver, x.value];
+    record_layouts::put_words(out, 0, &all);
     Written::Done
 }
 
@@ -110,7 +110,7 @@ pub fn write_pair_value(s: Params, x: PairRecord, out: &mut [u8]) -> Written
 fn write_verdict_refusal(s: Params, x: VerdictRecord, room: usize) -> u16
     ensures { λ r. ⌜ r ≡ refusal (writeVerdictRules (setupOf s []) x room) ⌝ }
 {
-    let a = scheme::or_size(scheme::limits_refusal(s), room, 8);
+    let a = scheme::or_size(scheme::limits_refusal(s), room, VERDICT_SIZE);
     record_layouts::verdict_faults(a, s, x)
 }
 
@@ -122,8 +122,8 @@ pub fn write_verdict(s: Params, x: VerdictRecord, out: &mut [u8]) -> Written
     if refusal != 0 {
         return Written::Refused(refusal);
     }
-    let all = [0x4456, x.dealing, x.holder, x.verdict];
-    record_words::put_words(out, 0, &all);
+    let all = [MARK_VD, x.dealing, x.holder, x.verdict];
+    record_layouts::put_words(out, 0, &all);
     Written::Done
 }
 
@@ -131,7 +131,7 @@ pub fn write_verdict(s: Params, x: VerdictRecord, out: &mut [u8]) -> Written
 fn write_share_refusal(s: Params, x: ShareRecord, room: usize) -> u16
     ensures { λ r. ⌜ r ≡ refusal (writeShareRules (setupOf s []) x room) ⌝ }
 {
-    let a = scheme::or_size(scheme::limits_refusal(s), room, 10);
+    let a = scheme::or_size(scheme::limits_refusal(s), room, SHARE_SIZE);
     record_layouts::share_faults(a, s, x)
 }
 
@@ -143,7 +143,7 @@ pub fn write_share(s: Params, x: ShareRecord, out: &mut [u8]) -> Written
     if refusal != 0 {
         return Written::Refused(refusal);
     }
-    let all = [0x4853, x.dealing, x.holder, x.column, x.value];
-    record_words::put_words(out, 0, &all);
+    let all = [MARK_SH, x.dealing, x.holder, x.column, x.value];
+    record_layouts::put_words(out, 0, &all);
     Written::Done
 }

@@ -7,7 +7,7 @@ use native.Mathlib.Omega.{arith}
 use lib.ListN.{length, take, drop, length-drop}
 use Rattle.base.specs.Rules.{refusal}
 use Rattle.scheme.specs.Setup.{Setup, dim, setupOf}
-use Rattle.record_words.specs.Words.{wordsAt}
+use Rattle.record_layouts.specs.Words.{wordsAt}
 use Rattle.record_layouts.specs.Records.{setupSize, dealingAt, dealingG, dealingH, readDealingRules}
 use Rattle.record_layouts.proofs.Calls.{parts-room}
 use Rattle.file_records.proofs.Reading.{part-is}

@@ -5,7 +5,7 @@ use native.Mathlib.Omega.{arith}
 use lib.ListN.{take}
 use Rattle.scheme.specs.declared.Params.{Params}
 use Rattle.scheme.specs.Setup.{setupOf}
-use Rattle.record_words.specs.Words.{wordsAt}
+use Rattle.record_layouts.specs.Words.{wordsAt}
 use Rattle.record_layouts.specs.Records.{setupAt}
 use Rattle.record_layouts.proofs.Calls.{setup-read, matrix-small}
 use Rattle.file_reading.proofs.Steps.{setup-clear}

@@ -8,7 +8,7 @@ use lib.ListN.{length}
 use Rattle.base.specs.Rules.{given}
 use Rattle.scheme.specs.Setup.{dim, setupOf}
 use Rattle.base.proofs.Rules.{declined, unchanged, accepted, written}
-use Rattle.record_words.specs.Words.{wordsAt}
+use Rattle.record_layouts.specs.Words.{wordsAt}
 use Rattle.record_layouts.specs.declared.DealingRecord.{DealingRecord}
 use Rattle.record_layouts.proofs.Calls.{parts-room}
 use Rattle.record_reading.proofs.read_dealing.Statement.{statement}

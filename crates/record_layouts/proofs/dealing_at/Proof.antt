@@ -1,0 +1,16 @@
+-- The two words after the mark.
+use borrow.Author.Needs.{needs}
+use Rattle.record_layouts.proofs.dealing_at.Statement.{statement}
+use Rattle.record_layouts.proofs.dealing_at.Tie as tie
+
+word-requires : tie.Need-word-requires
+word-requires c κs = search needs
+
+word-requires-2 : tie.Need-word-requires-2
+word-requires-2 c κs = search needs
+
+returns : tie.Need-returns
+returns c = cc
+
+pub dealing-at-spec : {M : Type 1} → statement M
+dealing-at-spec = tie.close (tie.spec word-requires word-requires-2 returns)
