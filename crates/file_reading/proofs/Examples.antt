@@ -9,11 +9,11 @@ use Rattle.base.specs.Fill.{tab, tabFrom}
 use Rattle.base.specs.Matrix.{allBelow}
 use Rattle.field.specs.Fields.{isField}
 use Rattle.field.specs.Dot.{dot}
-use Rattle.scheme.specs.Dealing.{expected, differs, saidReject, isKept}
+use Rattle.scheme.specs.Dealing.{expected, differs, saidReject, isKept, judgementOf, fateOf}
 use Rattle.scheme.proofs.Cases.{ex}
 use Rattle.record_layouts.specs.Words.{bytes, wordsAt}
 use Rattle.file_records.specs.Received.{pairFault, verdictFault, markFault, stepPair, stepVerdict, step, readFor}
-use Rattle.file_reading.specs.Contents.{Contents, judgementOf, fateOf, fileBytes}
+use Rattle.file_reading.specs.Contents.{Contents, fileBytes}
 use Rattle.file_reading.specs.File.{whole, refusedAt, setupFault, dealingFault, complete, lowered, ofContents, ofEnd, ofReceived, ofDealing, readFile}
 
 -- "The file is 90 bytes": SU, DL, the PV from 0, 1 and 2, the VD of 0, 1 and 2

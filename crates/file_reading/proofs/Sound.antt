@@ -2,7 +2,7 @@
 -- fair-pair, fair-verdict: a record whose fields are in order and whose sender has sent none before is taken
 -- pairs-given, verdicts-given: the records of the holders from j on, given by rising holder
 -- table-complete, table-back: the table that they leave is complete, and gives the list back
--- reads-back, honest-files: the statements of specs/Sound.antt
+-- reads-back: the statement of specs/Sound.antt
 use mathlib.Core.Path.{_≡_, refl, sym, ap, _∙_}
 use mathlib.Core.Bool.{Bool, true, false, not, _&&_}
 use mathlib.Core.List.{List, [], _∷_, _++_, append-assoc, append-nil}
@@ -15,23 +15,17 @@ use borrow.Author.Tests.{eq-eqb, ne-eqb, lt-leb}
 use lib.Dec.{eqb, ltb}
 use lib.ListN.{length, getD, set, drop, replicate, length-append, length-replicate, getD-replicate}
 use lib.Seq.{drop-at}
-use Rattle.base.specs.Rules.{refusal, Clear, Answer}
+use Rattle.base.specs.Rules.{refusal, Clear}
 use Rattle.base.specs.Search.{Vec}
 use Rattle.base.specs.Fill.{tab, tabFrom, laid}
 use Rattle.base.specs.Matrix.{Below}
-use Rattle.base.proofs.Rules.{none-applies, not-refused}
+use Rattle.base.proofs.Rules.{none-applies}
 use Rattle.base.proofs.Search.{every-all}
 use Rattle.base.proofs.Fill.{laid-store, laid-out, laid-in, length-tab, tab-is}
 use Rattle.field.specs.Dot.{at}
-use Rattle.scheme.specs.declared.Judgement.the-variants.{Accept}
-use Rattle.scheme.specs.declared.Fate.the-variants.{Kept}
 use Rattle.scheme.specs.Setup.{Setup, dim}
-use Rattle.scheme.specs.Dealing.{judge, outcome}
-use Rattle.scheme.specs.Calls.{limits, judgeRules, outcomeRules}
-use Rattle.scheme.specs.Demand.{Dealing, Honest}
-use Rattle.scheme.proofs.Calls.{limits-clear, limits-pos, below-vec, elements-clear, deal-ok, judge-ok, outcome-ok}
-use Rattle.scheme.proofs.Verdicts.{kept-means}
-use Rattle.scheme.proofs.Demand.{demand3}
+use Rattle.scheme.specs.Calls.{limits}
+use Rattle.scheme.proofs.Calls.{limits-clear, limits-pos, below-vec, elements-clear}
 use Rattle.record_layouts.specs.Words.{bytes, Bytes}
 use Rattle.record_layouts.proofs.Words.{length-bytes, word-of}
 use Rattle.record_layouts.specs.declared.DealingRecord.{DealingRecord}
@@ -44,10 +38,10 @@ use Rattle.file_records.specs.declared.Head.{Head}
 use Rattle.file_records.specs.declared.Seen.{Seen}
 use Rattle.file_records.specs.Received.{Received, pair, verdict, recordBytes, body, pairRules, pairFault, verdictRules, verdictFault, takePair, takeVerdict, orTake, begin, readReceived}
 use Rattle.file_records.proofs.Order.{give, giveAll, read-body, fewer}
-use Rattle.file_reading.specs.Contents.{Contents, InOrder, judgement, verdictOf, pairs, verdicts, fileBytes}
+use Rattle.file_reading.specs.Contents.{Contents, InOrder, pairs, verdicts, fileBytes}
 use Rattle.file_reading.specs.File.{FileRead, whole, headOf, complete, lowered, contentsOf, ofContents, readFile, setupFault, dealingFault}
-use Rattle.file_reading.specs.Sound.{ReadsBack, contentsOfRun, HonestFile, HonestFiles}
-use Rattle.file_reading.proofs.Steps.{field-le, judgement-is, fate-is, of-whole, of-contents, received-next, setup-own, deal-own, isSecond, file-next}
+use Rattle.file_reading.specs.Sound.{ReadsBack}
+use Rattle.file_reading.proofs.Steps.{field-le, of-whole, of-contents, received-next, setup-own, deal-own, isSecond, file-next}
 
 -- A RECORD IN ORDER IS TAKEN
 fair-pair : (h : Head) (x : PairRecord) (had : ℕ) → x .value < h .p → x .sender < h .n → x .receiver ≡ h .holder → x .dealing ≡ h .dealing → had ≡ 0
@@ -312,38 +306,3 @@ module _ (C : Contents) (ok : InOrder C) where
 
 pub reads-back : ReadsBack
 reads-back C ok = record { bytes = all-bytes C ok; fits = file-fits C ok; back = reads C ok }
-
--- HONEST RUNS
-module _ (S : Setup) (secrets random : List ℕ) (D : Dealing) (run : Honest S secrets random D) (i : ℕ) (l : i < S .n) (number : ℕ) (from : 1 ≤ number) (to : number ≤ 65535) where
-  pub honest-file : HonestFile S D number i
-  honest-file =
-      let found = demand3 .honest S secrets random D run in
-      let C = contentsOfRun S D number i in
-      let K = found .keep i l in
-      let dealt = deal-ok S secrets random i (run .lentG) (run .lentH) (not-refused _ _ [] (run .dealing i l) .0) in
-      let judged = not-refused (refusal (judgeRules S (D .h i) (D .values i))) (judge S (D .h i) (D .values i)) (1 ∷ []) (found .accept i l) in
-      let settled = not-refused (refusal (outcomeRules S (D .g i) (D .verdicts i) (K .lent))) (outcome S (D .verdicts i)) (1 ∷ []) (K .settled) in
-      let J = judge-ok S (D .h i) (D .values i) (judged .0) in
-      let O = outcome-ok S (D .g i) (D .verdicts i) (K .lent) (settled .0) in
-      let k = kept-means S (D .verdicts i) (settled .1) in
-      let accept : judgement C ≡ Accept = sym (judgement-is S (D .h i) (D .values i) Accept (sym (judged .1))) in
-      let order : InOrder C = record {
-        setup = dealt .0 .setup;
-        dealing = (from, to);
-        holder = l;
-        row = O .part;
-        column = J .part;
-        received = J .received;
-        heard = O .heard;
-        own = run .said i i l l ∙ ap (λ (a : Answer). at (a .values) 0) (found .accept i l) ∙ sym (ap verdictOf accept);
-      } in
-      record {
-        in-order = order;
-        accepted = reads-back C order;
-        accepts = accept;
-        keeps = sym (fate-is S (D .verdicts i) Kept (sym (settled .1)));
-        shares = rw k (rw (settled .0, k) at (K .share));
-      }
-
-pub honest-files : HonestFiles
-honest-files = honest-file

@@ -30,7 +30,7 @@ use Rattle.scheme.specs.Setup.{Setup, dim, Limits, IsSetup, setupOf}
 use Rattle.scheme.specs.Answers.{paperJudgement, paperJudged, paperFate, accepts, rejects, kept, aborted}
 use Rattle.scheme.specs.Calls.{outcomeRules, outcomeLeft}
 use Rattle.scheme.proofs.Calls.{limits-pos}
-use Rattle.scheme.specs.Dealing.{differs, judge, saidReject, isKept, outcome}
+use Rattle.scheme.specs.Dealing.{differs, judge, saidReject, isKept, outcome, judgementOf, fateOf}
 use Rattle.record_layouts.specs.declared.DealingRecord.{DealingRecord}
 use Rattle.record_layouts.specs.Words.{wordAt, wordsAt}
 use Rattle.record_layouts.proofs.Words.{length-words}
@@ -45,7 +45,7 @@ use Rattle.file_reading.specs.declared.SetupPart.{SetupPart}
 use Rattle.file_reading.specs.declared.DealingPart.{DealingPart}
 use Rattle.file_reading.specs.declared.Reading.{Reading}
 use Rattle.file_reading.specs.Inner.{setupIn, rowIn, columnIn, Parts, ReadsSetup, ReadsDealing, Tells, tellsBy}
-use Rattle.file_reading.specs.Contents.{Contents, judgementOf, verdictOf, fateOf, judgement}
+use Rattle.file_reading.specs.Contents.{Contents, verdictOf, judgement}
 use Rattle.file_reading.specs.File.{FileRead, refusedAt, whole, setupFault, dealingFault, headOf, complete, lowered, contentsOf, ofContents, ofEnd, orRefused, ofReceived, ofDealing, readFile, eight, told}
 
 -- A REFUSAL IS NO CONTENTS

@@ -1,23 +1,21 @@
 -- What a holder's file holds, and what follows from it.
 -- Contents: the setup with its matrix, the dealing number, the holder, its part g and h, the n values that it received and the n verdicts, by sender
--- judgementOf, verdictOf: the judgement by step 4 and the verdict that says it; fateOf: the outcome by step 5, as the answer types have them
+-- verdictOf: the verdict that says a judgement
 -- judgement, fate, keptShares: those of the contents; the shares where the dealing is kept, and none where it is aborted
 -- InOrder: contents that break nothing
 -- fileBytes: the contents as a file, PV by rising sender and then VD by rising holder
 use mathlib.Core.Path.{_≡_}
 use mathlib.Core.List.{List, [], _++_}
 use Prim.Native.Nat.{ℕ, _≤_, _<_}
-use lib.Dec.{ltb}
 use Rattle.base.specs.Choice.{pick}
-use Rattle.base.specs.Search.{first, Vec}
+use Rattle.base.specs.Search.{Vec}
 use Rattle.base.specs.Fill.{tab}
 use Rattle.field.specs.Dot.{at}
 use Rattle.scheme.specs.declared.Judgement.{Judgement}
 use Rattle.scheme.specs.declared.Judgement.the-variants.{Accept, Reject}
 use Rattle.scheme.specs.declared.Fate.{Fate}
-use Rattle.scheme.specs.declared.Fate.the-variants.{Kept, Aborted}
 use Rattle.scheme.specs.Setup.{Setup, dim, IsSetup}
-use Rattle.scheme.specs.Dealing.{differs, saidReject, isKept, shares}
+use Rattle.scheme.specs.Dealing.{judgementOf, isKept, fateOf, shares}
 use Rattle.record_layouts.specs.Words.{bytes}
 use Rattle.record_layouts.specs.Records.{setupWords, dealingWords}
 use Rattle.file_records.specs.Received.{Received, pair, verdict, body}
@@ -31,15 +29,9 @@ pub record Contents : Type 0 where
   pub values : List ℕ
   pub verdicts : List ℕ
 
-unfoldable pub judgementOf : Setup → List ℕ → List ℕ → Judgement
-judgementOf S h values = let j = first (differs S h values) (S .n) in pick (ltb j (S .n)) (Reject j) Accept
-
 abbrev pub verdictOf : Judgement → ℕ
 verdictOf Accept = 1
 verdictOf (Reject j) = 0
-
-unfoldable pub fateOf : Setup → List ℕ → Fate
-fateOf S verdicts = pick (isKept S verdicts) Kept (Aborted (first (saidReject verdicts) (S .n)))
 
 abbrev pub judgement : Contents → Judgement
 judgement C = judgementOf (C .setup) (C .h) (C .values)

@@ -13,12 +13,12 @@ use Rattle.base.specs.Search.{Vec}
 use Rattle.scheme.specs.declared.Params.{Params}
 use Rattle.scheme.specs.declared.Judgement.{Judgement}
 use Rattle.scheme.specs.Setup.{Setup, dim, IsSetup, setupOf}
-use Rattle.scheme.specs.Dealing.{isKept}
+use Rattle.scheme.specs.Dealing.{isKept, fateOf}
 use Rattle.record_layouts.specs.Records.{setupAt, setupSize, dealingAt, dealingG, dealingH}
 use Rattle.file_reading.specs.declared.SetupPart.{SetupPart}
 use Rattle.file_reading.specs.declared.DealingPart.{DealingPart}
 use Rattle.file_reading.specs.declared.Reading.{Reading}
-use Rattle.file_reading.specs.Contents.{Contents, fateOf}
+use Rattle.file_reading.specs.Contents.{Contents}
 use Rattle.file_reading.specs.File.{FileRead, whole, setupFault, dealingFault, numberOf, byteOf, told, eight}
 
 abbrev pub setupIn : SetupPart → Setup

@@ -1,9 +1,9 @@
 -- What is printed: the text of every contents in order, whichever order the records have; and document 01's file of 90 bytes with its three variants ("The holder program on
 -- paper"), computed from the definitions, one line here for each line there.
--- prints, call-prints, call-leaves: the file of contents in order prints their text; prints-kept: that of an honest run says accept, kept and the shares
+-- prints, call-prints, call-leaves: the file of contents in order prints their text
 -- same-text: files that differ only in the order of their PV and VD print the same
 use mathlib.Core.Path.{_≡_, refl, sym, ap, _∙_}
-use mathlib.Core.Bool.{true, not}
+use mathlib.Core.Bool.{not}
 use mathlib.Core.List.{List, [], _∷_, _++_}
 use Prim.Native.Nat.{ℕ, _+_, _≤_, _<_}
 use lib.ListN.{length, drop}
@@ -13,21 +13,13 @@ use Rattle.base.proofs.Rules.{none-applies}
 use Rattle.base.specs.Sum.{sum}
 use Rattle.base.specs.Search.{first, firstFrom}
 use Rattle.field.specs.Dot.{dot}
-use Rattle.scheme.specs.declared.Judgement.the-variants.{Accept}
-use Rattle.scheme.specs.declared.Fate.the-variants.{Kept}
-use Rattle.scheme.specs.Answers.{paperFate}
-use Rattle.scheme.specs.Setup.{Setup}
-use Rattle.scheme.specs.Dealing.{expected, differs, saidReject, isKept}
-use Rattle.scheme.specs.Demand.{Dealing, Honest}
-use Rattle.scheme.proofs.Verdicts.{kept-means}
+use Rattle.scheme.specs.Dealing.{expected, differs, saidReject, isKept, judgementOf, fateOf}
 use Rattle.record_layouts.specs.Records.{setupAt, setupSize, dealingSize}
 use Rattle.file_records.specs.Received.{Received, body, readReceived}
 use Rattle.file_records.proofs.Order.{Among}
-use Rattle.file_text.specs.Report.{width, dec, setupLine, dealingLine, verdictLine, outcomeLine, shareLine, shareLines, keptLines, refusedLine, printed}
-use Rattle.file_reading.specs.Contents.{Contents, InOrder, judgementOf, fateOf, fileBytes}
-use Rattle.file_reading.specs.Sound.{contentsOfRun}
-use Rattle.file_reading.proofs.Steps.{fate-paper}
-use Rattle.file_reading.proofs.Sound.{reads-back, honest-files}
+use Rattle.file_text.specs.Report.{width, dec, setupLine, dealingLine, verdictLine, outcomeLine, shareLine, shareLines, keptLines, refusedLine}
+use Rattle.file_reading.specs.Contents.{Contents, InOrder, fileBytes}
+use Rattle.file_reading.proofs.Sound.{reads-back}
 use Rattle.file_reading.proofs.Order.{headIn, same-read}
 use Rattle.file_reading.proofs.Examples.{worked, last-gone, rejected, contradicted, worked-read, last-gone-read, rejected-read, contradicted-read}
 use Rattle.holder_file.specs.Text.{textOf, lineOf, fileText}
@@ -51,15 +43,6 @@ pub call-leaves : (C : Contents) → InOrder C → (out : List ℕ) → length o
 call-leaves C ok out e =
     let A = reads-back C ok in
     rw (not-lent C ok out e, A .back) refl
-
-pub prints-kept : (S : Setup) (secrets random : List ℕ) (D : Dealing) → Honest S secrets random D → (i : ℕ) → i < S .n → (number : ℕ) → 1 ≤ number → number ≤ 65535
-    → fileText (fileBytes (contentsOfRun S D number i)) ≡ printed S number i Accept Kept (D .shares i)
-unfolding textOf
-prints-kept S secrets random D run i l number a b =
-    let F = honest-files S secrets random D run i l number a b in
-    let k : isKept S (D .verdicts i) ≡ true = kept-means S (D .verdicts i) (sym (fate-paper S (D .verdicts i)) ∙ ap paperFate (F .keeps)) in
-    prints (contentsOfRun S D number i) (F .in-order)
-    ∙ rw (F .accepts, F .keeps) (ap (printed S number i Accept Kept) (rw k at (F .shares)))
 
 -- document 01: "Two files that differ only in that order and are both read to the end print the same"
 module _ (a : List ℕ) (e : length a ≡ setupSize (setupAt a) + dealingSize (setupAt a))

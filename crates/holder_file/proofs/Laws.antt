@@ -14,12 +14,12 @@ use Rattle.base.specs.Fill.{laid}
 use Rattle.base.proofs.Fill.{tab-is, laid-whole}
 use Rattle.scheme.specs.declared.Fate.the-variants.{Kept, Aborted}
 use Rattle.scheme.specs.Setup.{setupOf}
-use Rattle.scheme.specs.Dealing.{isKept, saidReject}
+use Rattle.scheme.specs.Dealing.{isKept, saidReject, fateOf}
 use Rattle.file_text.specs.Text.{Printed}
 use Rattle.file_text.specs.Report.{setupLine, dealingLine, verdictLine, outcomeLine, keptLines, printed}
 use Rattle.file_reading.specs.declared.Reading.{Reading}
 use Rattle.file_reading.specs.declared.Told.{Told}
-use Rattle.file_reading.specs.Contents.{Contents, judgement, fateOf, fate}
+use Rattle.file_reading.specs.Contents.{Contents, judgement, fate}
 use Rattle.file_reading.specs.File.{FileRead, refusedAt, whole, readFile, numberOf, byteOf, told, eight}
 use Rattle.file_reading.specs.Inner.{Tells}
 use Rattle.file_reading.proofs.Whole.{HasContents, file-some, file-inside, whole-is-setup, whole-row}

@@ -1,7 +1,6 @@
 -- The cases that document 01 marks ● ("The holder program on paper"), on its example setup: the lines of one table, proved together from the
--- definitions; and the case that shows why the rule-keepers present have to determine the secrets by themselves.
+-- definitions.
 use mathlib.Core.Path.{_≡_, refl}
-use mathlib.Core.Bool.{false, _&&_}
 use mathlib.Core.List.{List, [], _∷_, _++_, map}
 use mathlib.Core.Option.{Option·getD}
 use Prim.Native.Nat.{ℕ}
@@ -17,11 +16,10 @@ use Rattle.field.specs.Dot.{dot}
 use Rattle.polynomial.specs.Polynomial.{point, lagrange, basis, minus}
 use Rattle.scheme.specs.Setup.{Setup}
 use Rattle.scheme.specs.Points.{pointsMatrix}
-use Rattle.scheme.specs.Answers.{yes}
 use Rattle.scheme.specs.Dealing.{place, dealtEntry, dealt, partG, partH, pairValue, expected}
 use Rattle.scheme.specs.Sets.{holds, members, membersFrom, isRow, findRow, hasRow, isSweep, findSweep, determines}
 use Rattle.scheme.specs.Opening.{gives, opening, combine}
-use Rattle.scheme.specs.Calls.{pointsLeft, dealLeftG, dealLeftH, pairValueCall, determinesCall, openCall, openLeft}
+use Rattle.scheme.specs.Calls.{pointsLeft, dealLeftG, dealLeftH, pairValueCall, openCall, openLeft}
 
 -- "p 7, ℓ 1, e 1, n 3, points rows (6,2), (5,3), (4,4), F rows (3,1), (5,2)"
 abbrev pub ex : Setup
@@ -68,22 +66,3 @@ table =
 pub cases : map (λ (c : Case). c .gives) table ≡ map (λ (c : Case). c .wanted) table
 unfolding sum bit unit every first firstFrom firstOf firstVec tab tabFrom allBelow inverseOf isField dot point lagrange basis minus pointsMatrix place dealtEntry dealt partG partH pairValue expected members membersFrom isRow findRow hasRow isSweep findSweep determines gives opening combine
 cases = refl
-
--- Why the mission's demand 3 asks that "the rule-keepers present determine all positions by themselves" (Demand.antt, Present): holders 0 and 1 are a
--- group that determines the secret 3, and kept the shares 0 and 2 of it. Holder 2 stands outside and hands in 5 for its 4. Holders 1 and 2 determine the
--- secret too, but open to 0: of them only holder 1 is in the group, and alone it determines nothing.
-pub group-determines : determinesCall ex 3 ≡ yes
-unfolding sum bit unit every firstOf firstVec allBelow isField dot members membersFrom isRow findRow hasRow determines
-group-determines = refl
-
-pub openers-determine : determinesCall ex 6 ≡ yes
-unfolding sum bit unit every firstOf firstVec allBelow isField dot members membersFrom isRow findRow hasRow determines
-openers-determine = refl
-
-pub liar-opens : openLeft ex 6 (2 ∷ 5 ∷ []) (1 ∷ []) ≡ 0 ∷ []
-unfolding sum bit unit every first firstFrom firstOf firstVec tab tabFrom allBelow isField dot members membersFrom isRow findRow hasRow gives opening
-liar-opens = refl
-
-pub alone-too-few : determines ex (λ i. holds 6 i && holds 3 i) ≡ false
-unfolding sum bit unit every firstOf firstVec dot members membersFrom isRow findRow hasRow determines
-alone-too-few = refl

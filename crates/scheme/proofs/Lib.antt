@@ -6,7 +6,4 @@ pub mod Sets
 pub mod Certificates
 pub mod Answering
 pub mod Grows
-pub mod Demand
-pub mod Honest
 pub mod Cases
-pub mod Lists

@@ -12,22 +12,32 @@ use Rattle.base.specs.Search.{first}
 use Rattle.base.proofs.Search.{missing-all, first-missing, first-found}
 use Rattle.field.specs.Dot.{at}
 use Rattle.scheme.specs.Setup.{Setup}
+use Rattle.scheme.specs.declared.Judgement.{Judgement}
 use Rattle.scheme.specs.declared.Judgement.the-variants.{Accept, Reject}
+use Rattle.scheme.specs.declared.Fate.{Fate}
 use Rattle.scheme.specs.declared.Fate.the-variants.{Kept, Aborted}
 use Rattle.scheme.specs.Answers.{accepts, kept, paperJudgement, paperFate}
 use Rattle.scheme.specs.Dealing.{expected, differs, judgementOf, judge, saidReject, isKept, fateOf, outcome}
 
--- an answer whose first value is 1 is the one behind the test
-choose : (b : Bool) (j : ℕ) → paperJudgement (pick b (Reject j) Accept) ≡ accepts → b ≡ false
-choose true j e = absurd (let z : _≡_ {A = ℕ} 0 1 = ap (λ (a : Answer). at (a .values) 0) e in omega arith)
-choose false j e = refl
+-- of two answers that differ in their first value, one is meant
+pub accept-is : (j : Judgement) → paperJudgement j ≡ accepts → j ≡ Accept
+accept-is Accept e = refl
+accept-is (Reject j) e = absurd (let z : _≡_ {A = ℕ} 0 1 = ap (λ (a : Answer). at (a .values) 0) e in omega arith)
+
+pub kept-is : (f : Fate) → paperFate f ≡ kept → f ≡ Kept
+kept-is Kept e = refl
+kept-is (Aborted i) e = absurd (let z : _≡_ {A = ℕ} 0 1 = ap (λ (a : Answer). at (a .values) 0) e in omega arith)
 
 pub accept-means : (S : Setup) (h values : List ℕ) → judge S h values ≡ accepts → (j : ℕ) → j < S .n → at values j ≡ expected S h j
 unfolding judgementOf differs
 accept-means S h values e j l =
     let t = first (differs S h values) (S .n) in
-    let none : S .n ≤ t = ltb-false t (S .n) (choose (ltb t (S .n)) t e) in
+    let none : S .n ≤ t = ltb-false t (S .n) (chosen (ltb t (S .n)) t (accept-is (judgementOf S h values) e)) in
     eqb-true (at values j) (expected S h j) (not-false (eqb (at values j) (expected S h j)) (missing-all (differs S h values) (S .n) none j l))
+  where
+    chosen : (b : Bool) (j : ℕ) → pick b (Reject j) Accept ≡ Accept → b ≡ false
+    chosen true j e = absurd (let z : _≡_ {A = ℕ} 0 1 = ap (λ (x : Judgement). at (paperJudgement x .values) 0) e in omega arith)
+    chosen false j e = refl
 
 pub accept-when : (S : Setup) (h values : List ℕ) → ((j : ℕ) → j < S .n → at values j ≡ expected S h j) → judgementOf S h values ≡ Accept
 unfolding judgementOf differs

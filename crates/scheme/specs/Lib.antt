@@ -6,4 +6,3 @@ pub mod Sets
 pub mod Opening
 pub mod Calls
 pub mod Answering
-pub mod Demand

@@ -1,6 +1,7 @@
 -- The judgement is that of the contents; the own verdict decides between refusal 13 and what the file tells.
 use mathlib.Core.Path.{_≡_, sym, ap, _∙_}
-use Rattle.file_reading.specs.Contents.{judgementOf, verdictOf}
+use Rattle.scheme.specs.Dealing.{judgementOf}
+use Rattle.file_reading.specs.Contents.{verdictOf}
 use Rattle.file_reading.specs.File.{contentsOf}
 use Rattle.file_reading.specs.Inner.{setupIn, rowIn, columnIn}
 use Rattle.file_reading.proofs.Steps.{of-13, limits-same, tells-contents, never-refused, as-only, tells-at}

@@ -10,13 +10,13 @@ use Rattle.base.specs.Search.{Vec}
 use Rattle.base.specs.Fill.{tab}
 use Rattle.base.proofs.Fill.{length-tab, getD-tab, tab-vec}
 use Rattle.field.specs.Dot.{at}
 use Rattle.scheme.specs.Setup.{Setup, dim}
 use Rattle.scheme.specs.Answers.{yes}
 use Rattle.scheme.specs.Dealing.{partG, pairValue}
 use Rattle.scheme.specs.Calls.{dealRules, dealLeftG, dealLeftH, judgeCall, outcomeLeft, determinesCall}
-use Rattle.scheme.specs.Demand.{Dealing, Done, Honest, FamilyFound}
+use Rattle.demand.specs.Demand.{Dealing, Done, Honest, FamilyFound}
 use Rattle.scheme.proofs.Calls.{limits-pos, DealOk, deal-accepts, pairValue-accepts}
-use Rattle.scheme.proofs.Demand.{demand3}
+use Rattle.demand.proofs.Demand.{demand3}
 
 module _ (S : Setup) (secrets random : List ℕ) (ok : DealOk S secrets random) where
   zeros : List ℕ

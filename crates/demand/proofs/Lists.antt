@@ -16,16 +16,16 @@ use Rattle.base.specs.Fill.{tab, tabFrom}
 use Rattle.base.specs.Matrix.{allBelow}
 use Rattle.field.specs.Fields.{isField}
 use Rattle.field.specs.Dot.{at, dot}
 use Rattle.scheme.specs.Setup.{Setup, Limits}
 use Rattle.scheme.specs.Answers.{inconsistent}
 use Rattle.scheme.specs.Dealing.{place, dealtEntry, dealt, pairValue, expected, differs, judgementOf, saidReject, isKept, fateOf}
 use Rattle.scheme.specs.Sets.{members, membersFrom, isRow, findRow, hasRow, determines}
 use Rattle.scheme.specs.Opening.{gives, opening, combine}
 use Rattle.scheme.specs.Calls.{pairValueCall, openCall, openLeft}
-use Rattle.scheme.specs.Demand.{Dealing, Member, Keeps, Done, Terms, InLimits, Handed, handedIn, Array, secretsOver, Opens, Refused, by-four, by-seven, FamilyFound}
+use Rattle.demand.specs.Demand.{Dealing, Member, Keeps, Done, Terms, InLimits, Handed, handedIn, Array, secretsOver, Opens, Refused, by-four, by-seven, FamilyFound}
 use Rattle.scheme.proofs.Calls.{vec-of, DealOk}
-use Rattle.scheme.proofs.Demand.{demand3}
-use Rattle.scheme.proofs.Honest.{run, runs-found}
+use Rattle.demand.proofs.Demand.{demand3}
+use Rattle.demand.proofs.Honest.{run, runs-found}
 
 -- p 7, ℓ 2, e 1, n 4, the points matrix
 abbrev pub four : Setup

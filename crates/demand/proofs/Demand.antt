@@ -27,20 +27,20 @@ use Rattle.base.proofs.Matrix.{below-is}
 use Rattle.field.specs.Prime.{Prime}
 use Rattle.field.specs.Dot.{at, dot}
 use Rattle.field.proofs.Dot.{dot-comm, dot-ext, dot-mod-right, dot-assoc, row-reads}
 use Rattle.scheme.specs.Setup.{Setup, dim, row}
 use Rattle.scheme.specs.Answers.{accepts, kept, yes, no, inconsistent, paperJudgement}
 use Rattle.scheme.specs.Dealing.{place, dealtEntry, dealt, partG, partH, pairValue, expected, judge, fateOf, outcome, shares}
 use Rattle.scheme.specs.Sets.{holds, members, rowAt, hasRow, determines}
 use Rattle.scheme.specs.Opening.{gives, opening, openedBy, combine}
 use Rattle.scheme.specs.Calls.{decide, judgeCall, judgeRules, outcomeRules, determinesCall, setRules, openRules, openCall, openLeft, openAnswer, combineRules, combineCall, pairValueRules, dealRules}
-use Rattle.scheme.specs.Demand.{Dealing, Member, Keeps, Done, Terms, InLimits, constants, sharesOver, Present, Handed, handedIn, Array, column, IsArray, AgreesAt, Agrees, ExactlyOne, secretsOver, Opens, Refused, by-four, by-seven, Found, Honest, arrayDealt, HonestFound, FamilyFound, Demand3}
+use Rattle.demand.specs.Demand.{Dealing, Member, Keeps, Done, Terms, InLimits, constants, sharesOver, Present, Handed, handedIn, Array, column, IsArray, AgreesAt, Agrees, ExactlyOne, secretsOver, Opens, Refused, by-four, by-seven, Found, Honest, arrayDealt, HonestFound, FamilyFound, Demand3}
 use Rattle.base.proofs.Rules.{not-refused}
 use Rattle.scheme.proofs.Calls.{limits-prime, limits-pos, set-ok, SetOk, judge-accepts, outcome-ok, outcome-accepts, open-by-shares, combine-accepts, DealOk, deal-ok, below-vec}
 use Rattle.scheme.proofs.Verdicts.{accept-means, accept-when, kept-means, kept-when}
 use Rattle.scheme.proofs.Members.{member-at, place-of, members-wide}
 use Rattle.scheme.proofs.Sets.{theRow, theRow-is, same-secrets}
 use Rattle.scheme.proofs.Certificates.{by-search}
 use Rattle.scheme.proofs.Grows.{row-grows}
 
 -- PRODUCTS WITH TABLES
 dot-tab : (d : ℕ) (u f : ℕ → ℕ) → dot d u (at (tab d f)) ≡ dot d u f

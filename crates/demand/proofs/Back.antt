@@ -15,12 +15,12 @@ use Rattle.scheme.specs.declared.Opened.{Opened}
 use Rattle.scheme.specs.Setup.{Setup}
 use Rattle.scheme.specs.Answers.{yes, paperDecided, paperOpened}
 use Rattle.scheme.specs.Calls.{determinesCall, openCall, openLeft}
-use Rattle.scheme.specs.Demand.{Dealing, Honest}
-use Rattle.scheme.proofs.Demand.{demand3}
-use Rattle.set_systems.specs.Contracts.{membersOf}
+use Rattle.demand.specs.Demand.{Dealing, Honest}
+use Rattle.demand.proofs.Demand.{demand3}
+use Rattle.scheme.specs.Sets.{holds, members}
 
 abbrev pub handed : Setup → Dealing → ℕ → ℕ → List ℕ
-handed S D s b = tab (length (membersOf S s)) (λ a. at (D .shares (at (membersOf S s) a)) b)
+handed S D s b = let ms = members (S .n) (holds s) in tab (length ms) (λ a. at (D .shares (at ms a)) b)
 
 abbrev pub secretVector : Setup → List ℕ → ℕ → List ℕ
 secretVector S secrets b = tab (S .l) (λ k. entry (S .l) secrets b k)

@@ -82,7 +82,7 @@ abbrev pub sharesOver : {I : Type 0} → (I → Dealing) → Terms I → ℕ →
 sharesOver D ts i = tab (ts .count) (λ t. at (D (ts .dealing t) .shares i) (ts .column t))
 
 -- The mission's "At the opening the rule-keepers present determine all positions by themselves and combine the same columns and constants": the group's
--- members among the openers determine the secrets. Where they do not, the others can open what they please: proofs/Cases.antt has such a case
+-- members among the openers determine the secrets. Where they do not, the others can open what they please: proofs/Present.antt has such a case
 -- (liar-opens).
 abbrev pub Present : Setup → ℕ → ℕ → Type 0
 Present S group openers = determines S (λ i. holds openers i && holds group i) ≡ true

@@ -1,0 +1,6 @@
+pub mod Demand
+pub mod Honest
+pub mod Present
+pub mod Lists
+pub mod Back
+pub mod Files
