@@ -13,7 +13,7 @@ ghost use Rattle.field.specs.Fields.{isField, orderOf};
 ghost use Rattle.field.specs.Dot.{dot};
 ghost use Rattle.scheme.specs.Setup.{setupOf};
 ghost use Rattle.scheme.specs.Answers.{paperValue, paperJudged, paperSettled, paperRehearsal};
-ghost use Rattle.scheme.specs.Dealing.{differs, saidReject, rehearse};
+ghost use Rattle.scheme.specs.Dealing.{differs, judgementOf, saidReject, fateOf, rehearse};
 ghost use Rattle.scheme.specs.Calls.{pairValueRules, pairValueCall, judgeRules, judgeCall, outcomeRules, outcomeCall, outcomeLeft, rehearseRules, rehearseCall, combineRules, combineCall};
 use field::Chosen;
 use field::Field;
@@ -88,7 +88,20 @@ fn lowest_that_differs(s: Params, matrix: &[u16], h: &[u16], values: &[u16]) -> 
     j
 }
 
-// A holder's judgement of the n values it received, on its column part h.
+// A holder's judgement of the n values it received, on its column part h, from inputs that are in order.
+pub fn judgement(s: Params, matrix: &[u16], h: &[u16], values: &[u16]) -> Judgement
+    requires { ⌜ refusal (judgeRules (setupOf s (now matrix)) (now h) (now values)) ≡ 0 ⌝ }
+    ensures { λ r. ⌜ r ≡ judgementOf (setupOf s (now (matrix .entry))) (now (h .entry)) (now (values .entry)) ⌝ }
+{
+    let n = s.n;
+    let j = lowest_that_differs(s, matrix, h, values);
+    if n <= j {
+        return Judgement::Accept;
+    }
+    Judgement::Reject(j)
+}
+
+// That judgement, or what refuses the inputs.
 pub fn judge(s: Params, matrix: &[u16], h: &[u16], values: &[u16]) -> Judged
     ensures { λ r. ⌜ paperJudged r ≡ judgeCall (setupOf s (now (matrix .entry))) (now (h .entry)) (now (values .entry)) ⌝ }
 {
@@ -96,12 +109,7 @@ pub fn judge(s: Params, matrix: &[u16], h: &[u16], values: &[u16]) -> Judged
     if refusal != 0 {
         return Judged::Refused(refusal);
     }
-    let n = s.n;
-    let j = lowest_that_differs(s, matrix, h, values);
-    if n <= j {
-        return Judged::As(Judgement::Accept);
-    }
-    Judged::As(Judgement::Reject(j))
+    Judged::As(judgement(s, matrix, h, values))
 }
 
 // OUTCOME
@@ -131,8 +139,21 @@ fn lowest_reject(n: u16, verdicts: &[u16]) -> u16
     i
 }
 
+// What became of a dealing, from the n verdicts received.
+pub fn fate(s: Params, verdicts: &[u16]) -> Fate
+    requires { ⌜ s .n ≤ length (now verdicts) ⌝ }
+    ensures { λ r. ⌜ r ≡ fateOf (setupOf s []) (now (verdicts .entry)) ⌝ }
+{
+    let n = s.n;
+    let i = lowest_reject(n, verdicts);
+    if i < n {
+        return Fate::Aborted(i);
+    }
+    Fate::Kept
+}
+
 // The first entries of g, as many as there are shares.
-fn keep_shares(g: &[u16], shares: &mut [u16])
+pub fn keep_shares(g: &[u16], shares: &mut [u16])
     requires { ⌜ length (now shares) ≤ length (now g) ⌝ }
     ensures { λ r. ⌜ now (shares .exit) ≡ take (length (now (shares .entry))) (now (g .entry)) ⌝ }
 {
@@ -153,13 +174,13 @@ pub fn outcome(s: Params, g: &[u16], verdicts: &[u16], shares: &mut [u16]) -> Se
     if refusal != 0 {
         return Settled::Refused(refusal);
     }
-    let n = s.n;
-    let i = lowest_reject(n, verdicts);
-    if i < n {
-        return Settled::As(Fate::Aborted(i));
+    match fate(s, verdicts) {
+        Fate::Aborted(i) => Settled::As(Fate::Aborted(i)),
+        Fate::Kept => {
+            keep_shares(g, shares);
+            Settled::As(Fate::Kept)
+        }
     }
-    keep_shares(g, shares);
-    Settled::As(Fate::Kept)
 }
 
 // REHEARSE
