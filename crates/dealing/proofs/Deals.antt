@@ -2,59 +2,17 @@
 use Prim.Native.Nat.{ℕ, _+_, _*_, _<_}
 use mathlib.Core.Path.{_≡_, sym, _∙_}
 use mathlib.Core.List.{List}
-use borrow.Author.Tests.{lt-leb}
 use lib.ListN.{length}
 use Rattle.base.specs.Rules.{refusal}
 use Rattle.base.specs.Fill.{tab}
 use Rattle.base.specs.Matrix.{flat}
-use Rattle.base.proofs.Rules.{none-applies}
 use Rattle.base.proofs.Fill.{getD-tab, flat-at}
 use Rattle.base.proofs.Matrix.{entry-fits}
 use Rattle.field.specs.Dot.{at}
 use Rattle.scheme.specs.Setup.{Setup, dim}
 use Rattle.scheme.specs.Dealing.{dealt, partG, partH}
 use Rattle.scheme.specs.Calls.{dealRules, dealLeftG, dealLeftH, dealAllRules, dealAllLeftG, dealAllLeftH}
-use Rattle.scheme.proofs.Calls.{size-clear, elements-clear, limits-clear, DealOk, dealAll-ok}
-
--- inputs in order, and room for the holder's part
-pub deal-accepts : (S : Setup) (secrets random : List ℕ) (i : ℕ) (g h : List ℕ) → DealOk S secrets random → length g ≡ dim S → length h ≡ dim S → i < S .n
-    → refusal (dealRules S secrets random i g h) ≡ 0
-deal-accepts S secrets random i g h k a b l =
-    let L = limits-clear S (k .setup .limits) in
-    none-applies (dealRules S secrets random i g h) (
-      L .field,
-      (
-        L .secret,
-        (
-          L .random,
-          (
-            L .holders,
-            (
-              size-clear (S .M) _ (k .setup .matrix .size),
-              (
-                size-clear secrets _ (k .vectors .size),
-                (
-                  size-clear random _ (k .entries .size),
-                  (
-                    size-clear g _ a,
-                    (
-                      size-clear h _ b,
-                      (
-                        elements-clear (S .p) _ (S .M) (k .setup .matrix),
-                        (
-                          elements-clear (S .p) _ secrets (k .vectors),
-                          (elements-clear (S .p) _ random (k .entries), (lt-leb (S .n) i l, tt)),
-                        ),
-                      ),
-                    ),
-                  ),
-                ),
-              ),
-            ),
-          ),
-        ),
-      ),
-    )
+use Rattle.scheme.proofs.Calls.{deal-accepts, dealAll-ok}
 
 -- the single deal to holder i, into a g and an h of d entries
 pub record Single (S : Setup) (secrets random gs hs : List ℕ) (i : ℕ) (g h : List ℕ) : Type 0 where

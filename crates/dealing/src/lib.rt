@@ -2,6 +2,7 @@
 // works on inputs that are in order. The work neither branches on nor indexes by a secret or a random entry.
 ghost use mathlib.Core.Path.{_≡_};
 ghost use mathlib.Core.Bool.{true};
+ghost use mathlib.Core.List.{[], _++_};
 ghost use Prim.Native.Nat.{ℕ, _+_, _-_, _*_, _%_, _<_, _≤_};
 ghost use lib.ListN.{length, getD};
 ghost use Rattle.base.specs.Rules.{refusal, refusalFrom};
@@ -12,7 +13,7 @@ ghost use Rattle.field.specs.Dot.{dot, along};
 ghost use Rattle.scheme.specs.Setup.{setupOf};
 ghost use Rattle.scheme.specs.Answers.{paperWritten};
 ghost use Rattle.scheme.specs.Dealing.{dealtEntry};
-ghost use Rattle.scheme.specs.Calls.{dealInputs, dealElements, dealRules, dealCall, dealLeftG, dealLeftH, dealAllRules, dealAllCall, dealAllLeftG, dealAllLeftH};
+ghost use Rattle.scheme.specs.Calls.{limits, sizes, inField, dealLent, dealRules, dealCall, dealLeftG, dealLeftH, dealAllRules, dealAllCall, dealAllLeftG, dealAllLeftH};
 ghost use Rattle.dealing.specs.Parts.{entryG, entryH, sized, DealtRoom, PartRoom};
 ghost use Rattle.dealing.specs.Pairs.{UpTo, Under, pairOf, lowOf, highOf, PairRoom};
 use field::Field;
@@ -271,18 +272,17 @@ fn random_len(s: Params) -> usize
 
 // Refusals 1 to 3 of what both calls take.
 fn inputs_refusal(s: Params, matrix: &[u16], secrets: &[u16], random: &[u16]) -> u16
-    ensures { λ r. ⌜ r ≡ refusal (dealInputs (setupOf s (now (matrix .entry))) (now (secrets .entry)) (now (random .entry))) ⌝ }
+    ensures { λ r. ⌜ r ≡ refusal (limits (setupOf s []) ++ sizes (dealLent (setupOf s (now (matrix .entry))) (now (secrets .entry)) (now (random .entry)))) ⌝ }
 {
     let l = s.l as usize;
-    let a = scheme::limits_refusal(s);
-    let b = scheme::or_size(a, matrix.len(), scheme::matrix_len(s));
-    let c = scheme::or_size(b, secrets.len(), l * l);
-    scheme::or_size(c, random.len(), random_len(s))
+    let a = scheme::setup_refusal(s, matrix.len());
+    let b = scheme::or_size(a, secrets.len(), l * l);
+    scheme::or_size(b, random.len(), random_len(s))
 }
 
 // Refusal 4 of what both calls take.
 fn or_inputs(standing: u16, s: Params, matrix: &[u16], secrets: &[u16], random: &[u16]) -> u16
-    ensures { λ r. ⌜ r ≡ refusalFrom standing (dealElements (setupOf s (now (matrix .entry))) (now (secrets .entry)) (now (random .entry))) ⌝ }
+    ensures { λ r. ⌜ r ≡ refusalFrom standing (inField (s .p) (dealLent (setupOf s (now (matrix .entry))) (now (secrets .entry)) (now (random .entry)))) ⌝ }
 {
     let a = scheme::or_elements(standing, s.p, matrix);
     let b = scheme::or_elements(a, s.p, secrets);

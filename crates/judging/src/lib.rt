@@ -37,12 +37,11 @@ fn rows_product(p: u16, d: usize, u: &[u16], i: usize, v: &[u16], j: usize) -> u
 fn pair_value_refusal(s: Params, matrix: &[u16], g: &[u16], to: u16) -> u16
     ensures { λ r. ⌜ r ≡ refusal (pairValueRules (setupOf s (now (matrix .entry))) (now (g .entry)) to) ⌝ }
 {
-    let a = scheme::limits_refusal(s);
-    let b = scheme::or_size(a, matrix.len(), scheme::matrix_len(s));
-    let c = scheme::or_size(b, g.len(), scheme::dim(s));
-    let e = scheme::or_elements(c, s.p, matrix);
-    let f = scheme::or_elements(e, s.p, g);
-    base::or_when(f, 5, s.n <= to)
+    let a = scheme::setup_refusal(s, matrix.len());
+    let b = scheme::or_size(a, g.len(), scheme::dim(s));
+    let c = scheme::or_elements(b, s.p, matrix);
+    let d = scheme::or_elements(c, s.p, g);
+    base::or_when(d, 5, s.n <= to)
 }
 
 // The pair value, for holder `to`, of the holder whose row part is g.
@@ -61,13 +60,12 @@ pub fn pair_value(s: Params, matrix: &[u16], g: &[u16], to: u16) -> Value
 fn judge_refusal(s: Params, matrix: &[u16], h: &[u16], values: &[u16]) -> u16
     ensures { λ r. ⌜ r ≡ refusal (judgeRules (setupOf s (now (matrix .entry))) (now (h .entry)) (now (values .entry))) ⌝ }
 {
-    let a = scheme::limits_refusal(s);
-    let b = scheme::or_size(a, matrix.len(), scheme::matrix_len(s));
-    let c = scheme::or_size(b, h.len(), scheme::dim(s));
-    let e = scheme::or_size(c, values.len(), s.n as usize);
-    let f = scheme::or_elements(e, s.p, matrix);
-    let g = scheme::or_elements(f, s.p, h);
-    scheme::or_elements(g, s.p, values)
+    let a = scheme::setup_refusal(s, matrix.len());
+    let b = scheme::or_size(a, h.len(), scheme::dim(s));
+    let c = scheme::or_size(b, values.len(), s.n as usize);
+    let d = scheme::or_elements(c, s.p, matrix);
+    let e = scheme::or_elements(d, s.p, h);
+    scheme::or_elements(e, s.p, values)
 }
 
 // The lowest holder whose value differs from what is due, or n where none does.
@@ -188,13 +186,12 @@ fn rehearse_refusal(s: Params, matrix: &[u16], gs: &[u16], hs: &[u16]) -> u16
     ensures { λ r. ⌜ r ≡ refusal (rehearseRules (setupOf s (now (matrix .entry))) (now (gs .entry)) (now (hs .entry))) ⌝ }
 {
     let len = scheme::matrix_len(s);
-    let a = scheme::limits_refusal(s);
-    let b = scheme::or_size(a, matrix.len(), len);
-    let c = scheme::or_size(b, gs.len(), len);
-    let e = scheme::or_size(c, hs.len(), len);
-    let f = scheme::or_elements(e, s.p, matrix);
-    let g = scheme::or_elements(f, s.p, gs);
-    scheme::or_elements(g, s.p, hs)
+    let a = scheme::setup_refusal(s, matrix.len());
+    let b = scheme::or_size(a, gs.len(), len);
+    let c = scheme::or_size(b, hs.len(), len);
+    let d = scheme::or_elements(c, s.p, matrix);
+    let e = scheme::or_elements(d, s.p, gs);
+    scheme::or_elements(e, s.p, hs)
 }
 
 // The first pair (i, j), by i and then by j, at which what j sends to i and what is due differ; own pairs too.

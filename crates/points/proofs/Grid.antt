@@ -2,7 +2,7 @@
 use Prim.Native.Nat.{ℕ, zero, suc, _+_, _*_, _/_, _%_, _≤_, _<_}
 use mathlib.Core.Path.{_≡_, refl, _∙_}
 use mathlib.Core.Bool.{Bool, true}
-use mathlib.Core.List.{List, []}
+use mathlib.Core.List.{List, [], _∷_}
 use mathlib.Core.Logic.{_≢_, ⊎-elim}
 use native.Mathlib.Numerals.{add-one}
 use native.Mathlib.Omega.{arith}
@@ -10,7 +10,6 @@ use lib.Dec.{eqb, ltb}
 use lib.ListN.{length, getD}
 use Rattle.base.specs.Choice.{pick}
 use Rattle.base.specs.Rules.{orWhen, refusal}
-use Rattle.base.proofs.Rules.{clear}
 use Rattle.base.specs.Fill.{tab, filled}
 use Rattle.base.specs.Matrix.{flat}
 use Rattle.base.proofs.Fill.{length-filled, getD-filled, filled-all, tab-ext}
@@ -20,9 +19,9 @@ use Rattle.field.specs.Fields.{isField}
 use Rattle.field.proofs.Fields.{field-five}
 use Rattle.polynomial.specs.Polynomial.{minus, basis, lagrange, point}
 use Rattle.scheme.specs.Setup.{Setup, dim, Limits}
-use Rattle.scheme.specs.Calls.{pointsRules}
-use Rattle.scheme.proofs.Calls.{limits-of, size-is}
-use Rattle.points.specs.Grid.{zeros, weightOf, weightsOf, pointsRow, rowEntry, HasRows, pointsSizes}
+use Rattle.scheme.specs.Calls.{room, setupRules, pointsRules}
+use Rattle.scheme.proofs.Calls.{in-order}
+use Rattle.points.specs.Grid.{zeros, weightOf, weightsOf, pointsRow, rowEntry, HasRows}
 
 -- a basis begins at 1 and takes one factor more, reduced
 pub basis-none : (p j : ℕ) (a : ℕ → ℕ) (x : ℕ) → basis p 0 j a x ≡ 1
@@ -76,12 +75,10 @@ pub not-lowered : (r k : ℕ) (b : Bool) → r ≤ orWhen r k b
 not-lowered zero k b = omega arith
 not-lowered (suc r) k b = omega arith
 
-pub sizes-ok : (S : Setup) → refusal (pointsSizes S) ≡ 0 → Limits S × (length (S .M) ≡ S .n * dim S)
-sizes-ok S e =
-    let c = clear (pointsSizes S) tt e in
-    (limits-of S (c .0) (c .1 .0) (c .1 .1 .0) (c .1 .1 .1 .0), size-is (S .M) _ (c .1 .1 .1 .1 .0))
+pub sizes-ok : (S : Setup) → refusal (setupRules S (length (S .M))) ≡ 0 → Limits S × (length (S .M) ≡ S .n * dim S)
+sizes-ok S e = let r = in-order S (room (length (S .M)) (S .n * dim S) ∷ []) [] tt e in (r .limits, r .lent .0)
 
 -- the rules up to 3, and then 15, are the whole table
-pub whole-table : (S : Setup) (early r d : ℕ) → early ≡ refusal (pointsSizes S) → d ≡ dim S → r ≡ orWhen early 15 (ltb (S .p) (d + S .n))
+pub whole-table : (S : Setup) (early r d : ℕ) → early ≡ refusal (setupRules S (length (S .M))) → d ≡ dim S → r ≡ orWhen early 15 (ltb (S .p) (d + S .n))
     → r ≡ refusal (pointsRules S)
 whole-table S early r d a b c = rw (c, a, b) refl

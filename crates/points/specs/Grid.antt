@@ -5,16 +5,12 @@
 -- pointsRow: row i with its d entries, then zeros
 -- rowEntry: entry j of row i of an array of rows
 -- HasRows: the array has n rows of at least d entries
--- pointsSizes: the table of `points` without its last rule, 15
 use Prim.Native.Nat.{ℕ, _*_, _%_, _≤_, _<_}
 use mathlib.Core.List.{List, [], _∷_, _++_}
 use lib.ListN.{length, getD, replicate}
 use Rattle.base.specs.Fill.{filled}
-use Rattle.base.specs.Rules.{Rule}
 use Rattle.field.specs.Prime.{inverseOf}
 use Rattle.polynomial.specs.Polynomial.{basis, point}
-use Rattle.scheme.specs.Setup.{Setup, dim}
-use Rattle.scheme.specs.Calls.{limits, size}
 
 unfoldable pub zeros : List ℕ
 zeros = replicate 16 0
@@ -34,6 +30,3 @@ rowEntry rows i j = getD (getD rows i []) j 0
 pub record HasRows (d n : ℕ) (rows : List (List ℕ)) : Type 0 where
   pub count : n ≤ length rows
   pub wide : (i : ℕ) → i < n → d ≤ length (getD rows i [])
-
-abbrev pub pointsSizes : Setup → List Rule
-pointsSizes S = limits S ++ size (S .M) (S .n * dim S) ∷ []

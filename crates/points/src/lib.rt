@@ -16,7 +16,7 @@ ghost use Rattle.polynomial.specs.Polynomial.{minus, basis, point};
 ghost use Rattle.scheme.specs.Setup.{setupOf};
 ghost use Rattle.scheme.specs.Answers.{paperWritten};
 ghost use Rattle.scheme.specs.Calls.{pointsCall, pointsLeft};
-ghost use Rattle.points.specs.Grid.{weightOf, weightsOf, pointsRow, rowEntry, HasRows, pointsSizes};
+ghost use Rattle.points.specs.Grid.{weightOf, weightsOf, pointsRow, rowEntry, HasRows};
 use field::Chosen;
 use field::Field;
 use scheme::Params;
@@ -147,14 +147,6 @@ fn write_points(p: u16, d: usize, n: usize, matrix: &mut [u16])
     write_flat(d, n, &rows, matrix);
 }
 
-// Refusals 1 to 3 of `points`.
-fn points_sizes(s: Params, matrix: &[u16]) -> u16
-    ensures { λ r. ⌜ r ≡ refusal (pointsSizes (setupOf s (now (matrix .entry)))) ⌝ }
-{
-    let a = scheme::limits_refusal(s);
-    scheme::or_size(a, matrix.len(), scheme::matrix_len(s))
-}
-
 // What a call that writes answers by its refusal.
 fn written(refusal: u16) -> Written
     ensures { λ r. ⌜ paperWritten r ≡ answerBy refusal (given []) ⌝ }
@@ -173,7 +165,7 @@ fn points_in(field: Field, s: Params, matrix: &mut [u16]) -> Written
 {
     let p = field.order();
     let d = scheme::dim(s);
-    let early = points_sizes(s, matrix);
+    let early = scheme::setup_refusal(s, matrix.len());
     let refusal = base::or_when(early, 15, (p as usize) < d + (s.n as usize));
     let answer = written(refusal);
     if refusal == 0 {

@@ -4,7 +4,7 @@
 -- Lent: one thing that a call is lent: so many field elements, or a buffer that has, and needs, so many entries
 -- sizes, inField: refusals 3 and 4 of all that is lent
 -- table: the one shape of a table: the limits, the lengths of all that is lent, the elements of all that is taken, then the call's own rules
--- matrix: the setup's matrix, lent
+-- matrix: the setup's matrix, lent; setupRules: the limits and the length of a matrix, with which many tables begin
 -- xRules, xCall, xLeft: the table, the answer and the buffer of call x
 use mathlib.Core.Path.{_≡_}
 use mathlib.Core.Bool.{Bool, true, not, _&&_, _||_}
@@ -59,6 +59,9 @@ table S lent own = limits S ++ (sizes lent ++ (inField (S .p) lent ++ own))
 
 abbrev pub matrix : Setup → Lent
 matrix S = elements (S .M) (S .n * dim S)
+
+abbrev pub setupRules : Setup → ℕ → List Rule
+setupRules S has = limits S ++ size has (S .n * dim S) ∷ []
 
 -- POINTS: the points matrix into a lent matrix. "15: points matrix with d + n above p"
 abbrev pub pointsRules : Setup → List Rule

@@ -9,7 +9,7 @@ ghost use Rattle.base.specs.Rules.{orWhen, refusal};
 ghost use Rattle.base.specs.Matrix.{allBelow};
 ghost use Rattle.scheme.specs.Setup.{setupOf};
 ghost use Rattle.scheme.specs.Answers.{paperWritten};
-ghost use Rattle.scheme.specs.Calls.{outside, limits};
+ghost use Rattle.scheme.specs.Calls.{outside, limits, setupRules};
 
 // The numbers of a setup; the matrix is lent beside them.
 pub struct Params {
@@ -145,4 +145,12 @@ pub fn or_elements(standing: u16, p: u16, s: &[u16]) -> u16
     ensures { λ r. ⌜ r ≡ orWhen standing 4 (not (allBelow p (now (s .entry)))) ⌝ }
 {
     base::or_when(standing, 4, !base::all_below(s, p))
+}
+
+// The limits and the length of a matrix, with which the calls on a matrix begin.
+pub fn setup_refusal(s: Params, len: usize) -> u16
+    ensures { λ r. ⌜ r ≡ refusal (setupRules (setupOf s []) len) ⌝ }
+{
+    let needed = matrix_len(s);
+    or_size(limits_refusal(s), len, needed)
 }

@@ -1,6 +1,7 @@
 -- The rules of the table, in its order.
 use native.Mathlib.Nat.{mul-le-mul}
 use native.Mathlib.Omega.{arith}
+use native.Mathlib.Omega.{arith}
 use borrow.Author.Needs.{needs}
 use Rattle.dealing.proofs.inputs_refusal.Statement.{statement}
 use Rattle.dealing.proofs.inputs_refusal.Tie as tie
@@ -8,28 +9,20 @@ use Rattle.dealing.proofs.inputs_refusal.Tie as tie
 cast-l : tie.Need-cast-l
 cast-l c = search needs
 
-limits-refusal-requires : tie.Need-limits-refusal-requires
-limits-refusal-requires c κs = search needs
+setup-refusal-requires : tie.Need-setup-refusal-requires
+setup-refusal-requires c κs = search needs
 
-matrix-len-requires : tie.Need-matrix-len-requires
-matrix-len-requires c κs = search needs
+mul-or-size : tie.Need-mul-or-size
+mul-or-size c = let l = c .before .before .before .before .before .args .s .l in omega (arith, mul-le-mul {n₁ = l} {m₁ = l} {n₂ = 65535} {m₂ = 65535} (omega arith) (omega arith))
 
 or-size-requires : tie.Need-or-size-requires
 or-size-requires c κs = search needs
 
-mul-or-size : tie.Need-mul-or-size
-mul-or-size c =
-    let l = c .before .before .before .before .before .before .before .args .s .l in
-    omega (arith, mul-le-mul {n₁ = l} {m₁ = l} {n₂ = 65535} {m₂ = 65535} (omega arith) (omega arith))
-
-or-size-requires-2 : tie.Need-or-size-requires-2
-or-size-requires-2 c κs = search needs
-
 random-len-requires : tie.Need-random-len-requires
 random-len-requires c κs = search needs
 
-or-size-requires-3 : tie.Need-or-size-requires-3
-or-size-requires-3 c κs = search needs
+or-size-requires-2 : tie.Need-or-size-requires-2
+or-size-requires-2 c κs = search needs
 
 returns : tie.Need-returns
 returns c = cc
@@ -39,11 +32,9 @@ inputs-refusal-spec =
     tie.close
     (tie.spec
     cast-l
-    limits-refusal-requires
-    matrix-len-requires
-    or-size-requires
+    setup-refusal-requires
     mul-or-size
-    or-size-requires-2
+    or-size-requires
     random-len-requires
-    or-size-requires-3
+    or-size-requires-2
     returns)

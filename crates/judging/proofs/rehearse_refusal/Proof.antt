@@ -6,17 +6,14 @@ use Rattle.judging.proofs.rehearse_refusal.Tie as tie
 matrix-len-requires : tie.Need-matrix-len-requires
 matrix-len-requires c κs = search needs
 
-limits-refusal-requires : tie.Need-limits-refusal-requires
-limits-refusal-requires c κs = search needs
+setup-refusal-requires : tie.Need-setup-refusal-requires
+setup-refusal-requires c κs = search needs
 
 or-size-requires : tie.Need-or-size-requires
 or-size-requires c κs = search needs
 
 or-size-requires-2 : tie.Need-or-size-requires-2
 or-size-requires-2 c κs = search needs
-
-or-size-requires-3 : tie.Need-or-size-requires-3
-or-size-requires-3 c κs = search needs
 
 or-elements-requires : tie.Need-or-elements-requires
 or-elements-requires c κs = search needs
@@ -35,10 +32,9 @@ rehearse-refusal-spec =
     tie.close
     (tie.spec
     matrix-len-requires
-    limits-refusal-requires
+    setup-refusal-requires
     or-size-requires
     or-size-requires-2
-    or-size-requires-3
     or-elements-requires
     or-elements-requires-2
     or-elements-requires-3
