@@ -42,10 +42,10 @@ cast-write-points c = search needs
 write-points-requires : tie.Need-write-points-requires
 write-points-requires c κs =
     let e = c .before .before in
-    let x = e .before .before .before .before .before .before .before .before .before .args in
+    let x = e .before .before .before .before .before .before .before .before .args in
     let S = setupOf (x .s) (x .matrix .now) in
-    let D = e .before .before .before .before .before .before .dim .ensures .0 in
-    let P = e .before .before .before .before .before .before .before .order .ensures ∙ e .before .before .before .before .before .before .before .before .before .pre in
+    let D = e .before .before .before .before .before .dim .ensures .0 in
+    let P = e .before .before .before .before .before .before .order .ensures ∙ e .before .before .before .before .before .before .before .before .pre in
     let sizes = e .before .before .before .before .setup-refusal in
     let h : sizes .result ≤ e .before .before .or-when .result = rw (e .before .before .or-when .ensures) (not-lowered _ _ _) in
     let z : sizes .result ≡ 0 = omega (arith, h, e .if1 .taken) in
@@ -65,10 +65,10 @@ returns : tie.Need-returns
 unfolding pointsMatrix
 returns c =
     let e = c .before .before .before .before .before in
-    let x = e .before .before .before .before .before .before .before .before .before .args in
+    let x = e .before .before .before .before .before .before .before .before .args in
     let S = setupOf (x .s) (x .matrix .now) in
-    let D = e .before .before .before .before .before .before .dim .ensures .0 in
-    let P = e .before .before .before .before .before .before .before .order .ensures ∙ e .before .before .before .before .before .before .before .before .before .pre in
+    let D = e .before .before .before .before .before .dim .ensures .0 in
+    let P = e .before .before .before .before .before .before .order .ensures ∙ e .before .before .before .before .before .before .before .before .pre in
     let sizes = e .before .before .before .before .setup-refusal in
     let late = e .before .before .or-when in
     let w = whole-table S (sizes .result) (late .result) _ (sizes .ensures) D (rw P at (late .ensures)) in
@@ -79,15 +79,12 @@ returns c =
       rw (← w, none) (rw (D, P) at (c .before .before .write-points .ensures)),
     )
 
-same-length-2 : tie.Need-same-length-2
-same-length-2 c = search needs
-
 returns-2 : tie.Need-returns-2
 returns-2 c =
-    let x = c .before .before .before .before .before .before .before .before .before .args in
+    let x = c .before .before .before .before .before .before .before .before .args in
     let S = setupOf (x .s) (x .matrix .now) in
-    let D = c .before .before .before .before .before .before .dim .ensures .0 in
-    let P = c .before .before .before .before .before .before .before .order .ensures ∙ c .before .before .before .before .before .before .before .before .before .pre in
+    let D = c .before .before .before .before .before .dim .ensures .0 in
+    let P = c .before .before .before .before .before .before .order .ensures ∙ c .before .before .before .before .before .before .before .before .pre in
     let sizes = c .before .before .before .before .setup-refusal in
     let late = c .before .before .or-when in
     let w = whole-table S (sizes .result) (late .result) _ (sizes .ensures) D (rw P at (late .ensures)) in
@@ -110,5 +107,4 @@ points-in-spec =
     write-points-requires
     same-length
     returns
-    same-length-2
     returns-2)
