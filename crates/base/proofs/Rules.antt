@@ -1,5 +1,5 @@
--- The laws of refusal tables. A table gives the lowest number that applies: whatever applies is at least the answer (least), an answer other than 0
--- applies (applies), and the answer 0 says that nothing does (clear, none-applies). Then tables in two parts, and answers and buffers by a number.
+-- The laws of refusal tables. A table whose numbers rise gives the lowest that applies (lowest), and the answer 0 says that nothing does (clear,
+-- none-applies). Then tables in two parts, and answers and buffers by a number.
 -- positive: the numbers of a table are above 0, in whatever order they stand
 use Prim.Native.Nat.{ℕ, zero, suc, _≤_, _<_}
 use native.Mathlib.Nat.{le-refl, le-trans, not-suc-le-zero}
@@ -8,7 +8,7 @@ use mathlib.Core.Bool.{Bool, true, false, _&&_, false≢true}
 use mathlib.Core.List.{List, [], _∷_, _++_}
 use mathlib.Core.Path.{_≡_, refl, sym, ap, _∙_}
 use lib.Dec.{leb, ltb, T, leb→le}
-use Rattle.base.specs.Rules.{Rule, _when_, orWhen, refusalFrom, refusal, rising, Rising, Applies, here, there, Clear, Answer, refused, given, answerBy, leftBy}
+use Rattle.base.specs.Rules.{Rule, _when_, orWhen, refusalFrom, refusal, rising, Rising, Applies, here, there, Lowest, Clear, Answer, refused, given, answerBy, leftBy}
 use Rattle.base.proofs.Choice.{T-left, T-right, T-both}
 
 abbrev pub positive : List Rule → Bool
@@ -48,14 +48,14 @@ least-from ((j when true) ∷ l) b k p h (there w) =
     let i = least-from l j k z (T-right (leb b j) (rising j l) h) w in
     (rw (from-pos j l z) z, rw (from-pos j l z) (i .2), le-trans q (i .2))
 
-pub least : (l : List Rule) (k : ℕ) → Rising l → Applies l k → (0 < refusal l) × (refusal l ≤ k)
-least l k h a = let r = least-from l 1 k (omega arith) h a in (r .0, r .1)
-
-pub applies : (l : List Rule) → 0 < refusal l → Applies l (refusal l)
+applies : (l : List Rule) → 0 < refusal l → Applies l (refusal l)
 applies [] z = absurd (not-suc-le-zero z)
 applies ((zero when true) ∷ l) z = there (applies l z)
 applies ((suc j when true) ∷ l) z = rw (from-pos (suc j) l (omega arith)) here
 applies ((j when false) ∷ l) z = there (applies l z)
+
+pub lowest : (l : List Rule) → Rising l → Lowest l
+lowest l h = record { least = λ k a. let r = least-from l 1 k (omega arith) h a in (r .0, r .1); applies = applies l }
 
 pub clear : (l : List Rule) → T (positive l) → refusal l ≡ 0 → Clear l
 clear [] t e = tt

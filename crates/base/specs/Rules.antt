@@ -4,10 +4,11 @@
 -- refusal: the first number of a table whose test holds, or 0
 -- Rising: the numbers of a table are above 0 and none stands before a lower one
 -- Applies: a rule of that number holds
+-- Lowest: the table gives the lowest number that applies, and 0 only where none does
 -- Clear: no rule of the table holds
 -- Answer: what document 01 says of an answer: whether the call answered, the refusal's number (0: none) and the values given beside it
 -- answerBy, leftBy: the answer and a lent buffer by the refusal's number: "buffers unchanged, in all rows" of the table of refusals
-use Prim.Native.Nat.{ℕ, zero, suc}
+use Prim.Native.Nat.{ℕ, zero, suc, _≤_, _<_}
 use mathlib.Core.Bool.{Bool, true, false, _&&_}
 use mathlib.Core.List.{List, [], _∷_}
 use mathlib.Core.Path.{_≡_}
@@ -40,6 +41,10 @@ Rising l = T (rising 1 l)
 pub data Applies : List Rule → ℕ → Type 0 where
   here : {k : ℕ} {l : List Rule} → Applies ((k when true) ∷ l) k
   there : {q : Rule} {k : ℕ} {l : List Rule} → Applies l k → Applies (q ∷ l) k
+
+pub record Lowest (l : List Rule) : Type 0 where
+  pub least : (k : ℕ) → Applies l k → (0 < refusal l) × (refusal l ≤ k)
+  pub applies : 0 < refusal l → Applies l (refusal l)
 
 abbrev pub Clear : List Rule → Type 0
 Clear [] = Unit {0}

@@ -13,6 +13,7 @@ use Rattle.base.specs.Choice.{pick}
 use Rattle.base.specs.Rules.{Answer, refusal, given, answerBy}
 use Rattle.base.specs.Search.{first, First, found, missing, firstVec, Vec}
 use Rattle.base.specs.Matrix.{flat}
+use Rattle.base.proofs.Rules.{lowest}
 use Rattle.base.proofs.Matrix.{below-is}
 use Rattle.base.proofs.Search.{every-at, every-all, first-is, firstVec-sound, firstVec-complete}
 use Rattle.field.specs.Fields.{isField}
@@ -26,7 +27,7 @@ use Rattle.scheme.specs.Dealing.{judgementOf, fateOf, pairValue, disagre
 use Rattle.scheme.specs.Sets.{holds, members, hasRow, hasSweep, kind, determines, isPrivate}
 use Rattle.scheme.specs.Opening.{gives, opening, openedBy, combine}
 use Rattle.scheme.specs.Calls.{decide, pointsRules, dealRules, dealAllRules, pairValueRules, judgeRules, outcomeRules, rehearseRules, setRules, judgeSetRules, openRules, openCall, combineRules}
-use Rattle.scheme.specs.Answering.{Marked, AllMarked, Answers, Behind, OpenAnswers, Answering}
+use Rattle.scheme.specs.Answering.{AllLowest, Marked, AllMarked, Answers, Behind, OpenAnswers, Answering}
 use Rattle.scheme.proofs.Calls.{points-accepts, deal-accepts, dealAll-accepts, pairValue-accepts, judge-accepts, outcome-accepts, rehearse-accepts, set-accepts, judgeSet-accepts, open-by-shares, combine-accepts}
 use Rattle.scheme.proofs.Members.{members-wide}
 use Rattle.scheme.proofs.Certificates.{by-search, undetermined-in-hand}
@@ -94,6 +95,23 @@ opening-is S s xs = go (first lacks (S .l)) (first-is lacks (S .l))
         by-six (is-false (determines S (holds s)) (λ d. false≢true (sym (not-true _ t) ∙ every-at (S .l) (hasRow S (holds s)) d r l))) r
         (undetermined-in-hand S (holds s) xs r l (λ j m. not-false _ (below j m)) (not-true _ t))
     go r (missing e all) = search _ refl (every-all (S .l) (hasRow S (holds s)) (λ k l. not-false _ (all k l)))
+
+-- THE LOWEST NUMBER: the numbers of every table rise
+pub all-lowest : AllLowest
+all-lowest =
+    record {
+      points = λ S. lowest (pointsRules S) tt;
+      deal = λ S secrets random i g h. lowest (dealRules S secrets random i g h) tt;
+      deal-all = λ S secrets random gs hs. lowest (dealAllRules S secrets random gs hs) tt;
+      pair-value = λ S g i. lowest (pairValueRules S g i) tt;
+      judge = λ S h values. lowest (judgeRules S h values) tt;
+      outcome = λ S g verdicts out. lowest (outcomeRules S g verdicts out) tt;
+      rehearse = λ S gs hs. lowest (rehearseRules S gs hs) tt;
+      set = λ S s. lowest (setRules S s) tt;
+      judge-set = λ S s q out. lowest (judgeSetRules S s q out) tt;
+      opening = λ S s xs out. lowest (openRules S s xs out) tt;
+      combine = λ p cs xs. lowest (combineRules p cs xs) tt;
+    }
 
 -- THE MARK
 pub marked-by : (r : ℕ) (a : Answer) → Marked a → Marked (answerBy r a)

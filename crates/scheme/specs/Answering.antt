@@ -1,5 +1,6 @@
 -- When a call answers (document 01, "What a call gives when it declines"), for each call in the order of Calls.antt; proofs/Answering.antt proves it.
 -- The calls that write and read records, and the call for a holder's file, have the like beside their own definitions.
+-- AllLowest: every call gives the lowest number that applies
 -- Marked: an answer says that the call answered exactly where the refusal's number is 0
 -- AllMarked: every call's answer does
 -- Answers: the call answered, that is, it was not refused
@@ -13,13 +14,28 @@ use mathlib.Core.Logic.{_↔_}
 use Prim.Native.Nat.{ℕ, _+_, _-_, _*_, _^_, _≤_, _<_}
 use lib.Dec.{eqb}
 use lib.ListN.{length}
-use Rattle.base.specs.Rules.{Answer}
+use Rattle.base.specs.Rules.{Lowest, Answer}
 use Rattle.base.specs.Search.{Vec}
 use Rattle.field.specs.Fields.{isField}
 use Rattle.scheme.specs.Setup.{Setup, dim, Limits, IsSetup}
 use Rattle.scheme.specs.Sets.{holds, members, determines}
 use Rattle.scheme.specs.Opening.{gives}
+use Rattle.scheme.specs.Calls.{pointsRules, dealRules, dealAllRules, pairValueRules, judgeRules, outcomeRules, rehearseRules, setRules, judgeSetRules, openRules, combineRules}
 use Rattle.scheme.specs.Calls.{pointsCall, dealCall, dealAllCall, pairValueCall, judgeCall, outcomeCall, rehearseCall, determinesCall, privateCall, judgeSetCall, openCall, combineCall}
+
+-- THE LOWEST NUMBER: "In a call the lowest number that applies is given"
+pub record AllLowest : Type 0 where
+  pub points : (S : Setup) → Lowest (pointsRules S)
+  pub deal : (S : Setup) (secrets random : List ℕ) (i : ℕ) (g h : List ℕ) → Lowest (dealRules S secrets random i g h)
+  pub deal-all : (S : Setup) (secrets random gs hs : List ℕ) → Lowest (dealAllRules S secrets random gs hs)
+  pub pair-value : (S : Setup) (g : List ℕ) (i : ℕ) → Lowest (pairValueRules S g i)
+  pub judge : (S : Setup) (h values : List ℕ) → Lowest (judgeRules S h values)
+  pub outcome : (S : Setup) (g verdicts out : List ℕ) → Lowest (outcomeRules S g verdicts out)
+  pub rehearse : (S : Setup) (gs hs : List ℕ) → Lowest (rehearseRules S gs hs)
+  pub set : (S : Setup) (s : ℕ) → Lowest (setRules S s)
+  pub judge-set : (S : Setup) (s q : ℕ) (out : List ℕ) → Lowest (judgeSetRules S s q out)
+  pub opening : (S : Setup) (s : ℕ) (xs out : List ℕ) → Lowest (openRules S s xs out)
+  pub combine : (p : ℕ) (cs xs : List ℕ) → Lowest (combineRules p cs xs)
 
 -- THE MARK OF AN ANSWER
 abbrev pub Marked : Answer → Type 0
