@@ -2,26 +2,17 @@
 use Prim.Native.Nat.{ℕ, _+_, _*_, _<_}
 use mathlib.Core.Path.{_≡_, sym, _∙_}
 use mathlib.Core.List.{List}
-use lib.ListN.{length}
-use Rattle.base.specs.Rules.{refusal}
 use Rattle.base.specs.Fill.{tab}
 use Rattle.base.specs.Matrix.{flat}
 use Rattle.base.proofs.Fill.{getD-tab, flat-at}
 use Rattle.base.proofs.Matrix.{entry-fits}
 use Rattle.field.specs.Dot.{at}
-use Rattle.scheme.specs.Setup.{Setup, dim}
+use Rattle.scheme.specs.Setup.{dim}
 use Rattle.scheme.specs.Dealing.{dealt, partG, partH}
-use Rattle.scheme.specs.Calls.{dealRules, dealLeftG, dealLeftH, dealAllRules, dealAllLeftG, dealAllLeftH}
+use Rattle.dealing.specs.Singles.{AllSingle}
 use Rattle.scheme.proofs.Calls.{deal-accepts, dealAll-ok}
 
--- the single deal to holder i, into a g and an h of d entries
-pub record Single (S : Setup) (secrets random gs hs : List ℕ) (i : ℕ) (g h : List ℕ) : Type 0 where
-  pub accepted : refusal (dealRules S secrets random i g h) ≡ 0
-  pub row : (b : ℕ) → b < dim S → at (dealAllLeftG S secrets random gs hs) (i * dim S + b) ≡ at (dealLeftG S secrets random i g h) b
-  pub column : (b : ℕ) → b < dim S → at (dealAllLeftH S secrets random gs hs) (i * dim S + b) ≡ at (dealLeftH S secrets random i g h) b
-
-pub all-single : (S : Setup) (secrets random gs hs : List ℕ) → refusal (dealAllRules S secrets random gs hs) ≡ 0
-    → (i : ℕ) → i < S .n → (g h : List ℕ) → length g ≡ dim S → length h ≡ dim S → Single S secrets random gs hs i g h
+pub all-single : AllSingle
 all-single S secrets random gs hs z i l g h a b =
     let y = deal-accepts S secrets random i g h (dealAll-ok S secrets random gs hs z .0) a b l in
     record {

@@ -16,8 +16,7 @@ use Rattle.field.specs.Fields.{isField}
 use Rattle.field.proofs.Fields.{five-elim, field-five}
 use Rattle.field.specs.Dot.{dot, along}
 use Rattle.field.proofs.Dot.{dot-ext, dot-same, dot-comm, dot-comb-right}
-use Rattle.dealing.specs.Parts.{entryG, entryH}
-use Rattle.dealing.specs.Pairs.{UpTo, pairOf, lowOf, highOf}
+use Rattle.dealing.specs.Inner.{entryG, entryH, UpTo, pairOf, lowOf, highOf}
 use Rattle.dealing.proofs.Parts.{square-fits}
 
 -- a product with pairs is a pair of products

@@ -18,8 +18,7 @@ use Rattle.field.proofs.Dot.{dot-ext, dot-same}
 use Rattle.scheme.specs.Setup.{Setup, dim, row}
 use Rattle.scheme.specs.Dealing.{place, dealtEntry, dealt, partG, partH}
 use Rattle.scheme.proofs.Calls.{DealOk, limits-pos, below-vec}
-use Rattle.dealing.specs.Parts.{entryG, entryH, sized}
-use Rattle.dealing.specs.Pairs.{Under}
+use Rattle.dealing.specs.Inner.{entryG, entryH, sized, Under}
 
 -- F and its rows lie in the array
 pub square-fits : (d : ℕ) → d ≤ 16 → d * d ≤ 256

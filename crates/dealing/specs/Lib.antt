@@ -1,2 +1,2 @@
-pub mod Parts
-pub mod Pairs
+pub mod Singles
+pub mod Inner

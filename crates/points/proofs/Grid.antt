@@ -21,7 +21,7 @@ use Rattle.polynomial.specs.Polynomial.{minus, basis, lagrange, point}
 use Rattle.scheme.specs.Setup.{Setup, dim, Limits}
 use Rattle.scheme.specs.Calls.{room, setupRules, pointsRules}
 use Rattle.scheme.proofs.Calls.{in-order}
-use Rattle.points.specs.Grid.{zeros, weightOf, weightsOf, pointsRow, rowEntry, HasRows}
+use Rattle.points.specs.Inner.{zeros, weightOf, weightsOf, pointsRow, rowEntry, HasRows}
 
 -- a basis begins at 1 and takes one factor more, reduced
 pub basis-none : (p j : ℕ) (a : ℕ → ℕ) (x : ℕ) → basis p 0 j a x ≡ 1

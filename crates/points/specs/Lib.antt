@@ -1,1 +1,1 @@
-pub mod Grid
+pub mod Inner

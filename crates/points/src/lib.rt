@@ -16,7 +16,7 @@ ghost use Rattle.polynomial.specs.Polynomial.{minus, basis, point};
 ghost use Rattle.scheme.specs.Setup.{setupOf};
 ghost use Rattle.scheme.specs.Answers.{paperWritten};
 ghost use Rattle.scheme.specs.Calls.{pointsCall, pointsLeft};
-ghost use Rattle.points.specs.Grid.{weightOf, weightsOf, pointsRow, rowEntry, HasRows};
+ghost use Rattle.points.specs.Inner.{weightOf, weightsOf, pointsRow, rowEntry, HasRows};
 use field::Chosen;
 use field::Field;
 use scheme::Params;

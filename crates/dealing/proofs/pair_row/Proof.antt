@@ -7,7 +7,7 @@ use borrow.Author.Needs.{needs}
 use lib.ListN.{length, length-set}
 use Rattle.base.specs.Fill.{laid}
 use Rattle.base.proofs.Fill.{laid-none, laid-store}
-use Rattle.dealing.specs.Pairs.{pairOf}
+use Rattle.dealing.specs.Inner.{pairOf}
 use Rattle.dealing.proofs.Parts.{square-row}
 use Rattle.dealing.proofs.pair_row.Statement.{statement}
 use Rattle.dealing.proofs.pair_row.Tie as tie

@@ -7,7 +7,7 @@ use lib.ListN.{length}
 use Rattle.base.specs.Matrix.{flat}
 use Rattle.base.specs.Fill.{filled}
 use Rattle.base.proofs.Fill.{filled-none, length-laid, laid-row}
-use Rattle.dealing.specs.Pairs.{pairOf}
+use Rattle.dealing.specs.Inner.{pairOf}
 use Rattle.dealing.proofs.pair_rows.Statement.{statement}
 use Rattle.dealing.proofs.pair_rows.Tie as tie
 

@@ -7,7 +7,7 @@ use borrow.Author.Needs.{needs}
 use lib.ListN.{length, length-set}
 use Rattle.base.specs.Fill.{laid}
 use Rattle.base.proofs.Fill.{laid-none, laid-store}
-use Rattle.dealing.specs.Parts.{entryG}
+use Rattle.dealing.specs.Inner.{entryG}
 use Rattle.dealing.proofs.Parts.{square-row, product-g}
 use Rattle.dealing.proofs.write_g.Statement.{statement}
 use Rattle.dealing.proofs.write_g.Tie as tie

@@ -7,7 +7,7 @@ use borrow.Author.Needs.{needs}
 use lib.ListN.{length, length-set}
 use Rattle.base.specs.Fill.{laid}
 use Rattle.base.proofs.Fill.{laid-none, laid-store}
-use Rattle.dealing.specs.Parts.{entryH}
+use Rattle.dealing.specs.Inner.{entryH}
 use Rattle.dealing.proofs.Parts.{square-row, product-h}
 use Rattle.dealing.proofs.write_h.Statement.{statement}
 use Rattle.dealing.proofs.write_h.Tie as tie

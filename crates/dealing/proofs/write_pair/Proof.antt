@@ -8,7 +8,7 @@ use lib.ListN.{length, length-set}
 use Rattle.base.proofs.Matrix.{row-fits}
 use Rattle.base.specs.Fill.{laid}
 use Rattle.base.proofs.Fill.{laid-none, laid-store}
-use Rattle.dealing.specs.Pairs.{lowOf, highOf}
+use Rattle.dealing.specs.Inner.{lowOf, highOf}
 use Rattle.dealing.proofs.Parts.{square-row}
 use Rattle.dealing.proofs.write_pair.Statement.{statement}
 use Rattle.dealing.proofs.write_pair.Tie as tie

@@ -9,7 +9,7 @@ use Rattle.base.specs.Matrix.{flat}
 use Rattle.base.specs.Fill.{filled}
 use Rattle.base.proofs.Matrix.{row-fits}
 use Rattle.base.proofs.Fill.{filled-none, length-laid, laid-row}
-use Rattle.dealing.specs.Pairs.{lowOf, highOf}
+use Rattle.dealing.specs.Inner.{lowOf, highOf}
 use Rattle.dealing.proofs.write_pairs_by.Statement.{statement}
 use Rattle.dealing.proofs.write_pairs_by.Tie as tie
 

@@ -9,7 +9,7 @@ use Rattle.base.specs.Matrix.{flat}
 use Rattle.base.specs.Fill.{filled}
 use Rattle.base.proofs.Matrix.{row-fits}
 use Rattle.base.proofs.Fill.{filled-none, length-laid, laid-row}
-use Rattle.dealing.specs.Parts.{entryG, entryH}
+use Rattle.dealing.specs.Inner.{entryG, entryH}
 use Rattle.dealing.proofs.write_parts.Statement.{statement}
 use Rattle.dealing.proofs.write_parts.Tie as tie
 

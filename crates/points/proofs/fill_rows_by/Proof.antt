@@ -6,7 +6,7 @@ use borrow.Author.Needs.{needs}
 use lib.ListN.{length, length-set}
 use Rattle.base.specs.Fill.{filled}
 use Rattle.base.proofs.Fill.{filled-none, filled-store}
-use Rattle.points.specs.Grid.{pointsRow}
+use Rattle.points.specs.Inner.{pointsRow}
 use Rattle.points.proofs.fill_rows_by.Statement.{statement}
 use Rattle.points.proofs.fill_rows_by.Tie as tie
 

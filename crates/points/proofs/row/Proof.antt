@@ -8,7 +8,7 @@ use lib.ListN.{getD}
 use Rattle.base.specs.Fill.{filled}
 use Rattle.base.proofs.Fill.{filled-none, filled-store}
 use Rattle.polynomial.specs.Polynomial.{point}
-use Rattle.points.specs.Grid.{zeros, pointsRow}
+use Rattle.points.specs.Inner.{zeros, pointsRow}
 use Rattle.points.proofs.Grid.{weights-at}
 use Rattle.points.proofs.row.Statement.{statement}
 use Rattle.points.proofs.row.Tie as tie

@@ -4,7 +4,7 @@ use native.Mathlib.Nat.{mod-lt}
 use native.Mathlib.Omega.{arith}
 use borrow.Author.Needs.{needs}
 use Rattle.field.specs.Prime.{inverseOf}
-use Rattle.points.specs.Grid.{weightOf}
+use Rattle.points.specs.Inner.{weightOf}
 use Rattle.points.proofs.weight.Statement.{statement}
 use Rattle.points.proofs.weight.Tie as tie
 

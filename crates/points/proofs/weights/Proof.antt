@@ -6,7 +6,7 @@ use native.Mathlib.Omega.{arith}
 use borrow.Author.Needs.{needs}
 use Rattle.base.specs.Fill.{filled}
 use Rattle.base.proofs.Fill.{filled-none, filled-store}
-use Rattle.points.specs.Grid.{zeros, weightOf, weightsOf}
+use Rattle.points.specs.Inner.{zeros, weightOf, weightsOf}
 use Rattle.points.proofs.weights.Statement.{statement}
 use Rattle.points.proofs.weights.Tie as tie
 

@@ -9,7 +9,7 @@ use Rattle.base.specs.Fill.{filled}
 use Rattle.base.specs.Matrix.{flat}
 use Rattle.base.proofs.Fill.{filled-none, length-laid, laid-ext, laid-row}
 use Rattle.base.proofs.Matrix.{row-fits}
-use Rattle.points.specs.Grid.{rowEntry}
+use Rattle.points.specs.Inner.{rowEntry}
 use Rattle.points.proofs.write_flat.Statement.{statement}
 use Rattle.points.proofs.write_flat.Tie as tie
 

@@ -1,12 +1,12 @@
--- What the points matrix is worked out by, as a local array of 32 rows of 16 entries holds it, and the rules of its call up to 3.
+-- Contracts of inner functions: what the points matrix is worked out by, as a local array of 32 rows of 16 entries holds it.
 -- zeros: the weights and a row as they begin
 -- weightOf: the inverse of the basis of node j at its own node
 -- weightsOf: the weights of the d nodes
 -- pointsRow: row i with its d entries, then zeros
 -- rowEntry: entry j of row i of an array of rows
 -- HasRows: the array has n rows of at least d entries
-use Prim.Native.Nat.{ℕ, _*_, _%_, _≤_, _<_}
-use mathlib.Core.List.{List, [], _∷_, _++_}
+use Prim.Native.Nat.{ℕ, _%_, _≤_, _<_}
+use mathlib.Core.List.{List, []}
 use lib.ListN.{length, getD, replicate}
 use Rattle.base.specs.Fill.{filled}
 use Rattle.field.specs.Prime.{inverseOf}
