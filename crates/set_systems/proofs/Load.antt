@@ -18,7 +18,7 @@ use Rattle.field.specs.Dot.{at}
 use Rattle.elimination.specs.Elimination.{reduced, Shows}
 use Rattle.elimination.specs.Contracts.{buffers, Ready, Reduction}
 use Rattle.elimination.proofs.Flat.{start-shows, reduced-shows}
-use Rattle.set_systems.specs.Contracts.{Fresh}
+use Rattle.set_systems.specs.Inner.{Fresh}
 
 -- a part of a row of a matrix that lies flat, from column c on, and its last entry
 module _ (W : ℕ) (G : ℕ → ℕ → ℕ) (i c t : ℕ) (x a : List ℕ) (place : t ≡ i * W + c) (e : a ≡ filled (flat W G) t x) where

@@ -2,7 +2,6 @@
 -- taken, untouched: a list written entry by entry at the start of a buffer is what its start holds, and the rest is as it was
 -- prime-of, wide, few, narrow, row-inside, entry-small: what a set and a setup in order give
 -- counted, listed, lie: the walk lists the members, and their rows lie in the matrix
--- private-by: the number of members decides whether the set is private
 -- zeros, part-size, fresh: a part of a local buffer of zeros
 use mathlib.Core.Path.{_≡_, refl, sym, ap, _∙_}
 use mathlib.Core.List.{List, [], _∷_}
@@ -21,7 +20,7 @@ use Rattle.scheme.specs.Setup.{Setup, dim}
 use Rattle.scheme.specs.Sets.{holds, members, isPrivate}
 use Rattle.scheme.proofs.Calls.{SetOk, limits-prime, below-vec}
 use Rattle.scheme.proofs.Members.{member-at, members-le, members-wide}
-use Rattle.set_systems.specs.Contracts.{membersOf, Walked, Lie, Fresh}
+use Rattle.set_systems.specs.Inner.{membersOf, Walked, Lie, Fresh}
 
 pub taken : (ms x : List ℕ) (k : ℕ) → k ≡ length ms → k ≤ length x → take k (filled (at ms) k x) ≡ ms
 taken ms x k e l =
@@ -39,7 +38,7 @@ untouched f (suc k) [] = refl
 untouched f (suc k) (a ∷ x) = untouched (λ i. f (suc i)) k x
 
 -- a set in order
-module _ (S : Setup) (s : ℕ) (ok : SetOk S s) where
+module _ {S : Setup} {s : ℕ} (ok : SetOk S s) where
   pub prime-of : Prime (S .p)
   prime-of = limits-prime S (ok .setup .limits)
 
@@ -59,19 +58,15 @@ module _ (S : Setup) (s : ℕ) (ok : SetOk S s) where
   entry-small i j = below-vec (S .p) _ (S .M) (omega (arith, prime-of .big)) (ok .setup .matrix) (i * dim S + j)
 
 -- what the walk lists
-module _ (S : Setup) (s : ℕ) (ok : SetOk S s) (k d : ℕ) (out : List ℕ) {before : List ℕ} (W : Walked s k before out) (D : d ≡ dim S) where
+module _ {S : Setup} {s : ℕ} (ok : SetOk S s) {k : ℕ} {out before : List ℕ} (W : Walked s k before out) where
   pub counted : k ≡ length (membersOf S s)
-  counted = W .count ∙ ap length (wide S s ok)
+  counted = W .count ∙ ap length (wide ok)
 
   pub listed : take k out ≡ membersOf S s
-  listed = W .list ∙ wide S s ok
+  listed = W .list ∙ wide ok
 
-  pub lie : Lie d (S .M) (take k out)
-  lie = record { rows = rw (D, listed) (row-inside S s ok) }
-
-pub private-by : (S : Setup) (s : ℕ) → SetOk S s → (r : ℕ) → r ≡ length (members 32 (holds s)) → isPrivate S (holds s) ≡ leb r (S .e)
-unfolding isPrivate
-private-by S s ok r e = ap (λ k. leb k (S .e)) (sym (e ∙ ap length (wide S s ok)))
+  pub lie : {d : ℕ} → d ≡ dim S → Lie d (S .M) (take k out)
+  lie D = record { rows = rw (D, listed) (row-inside ok) }
 
 -- LOCAL BUFFERS
 -- n zeros

@@ -1,0 +1,90 @@
+-- The buffer is loaded with the members' rows as columns beside e_q, and reduced.
+use mathlib.Core.Path.{sym}
+use native.Mathlib.Omega.{arith}
+use borrow.Author.Needs.{needs}
+use lib.Seq.{length-take-le}
+use Rattle.scheme.specs.Setup.{setupOf}
+use Rattle.set_systems.proofs.Members.{lie}
+use Rattle.set_systems.proofs.Systems.{across-asks, across-ready, across-reduced}
+use Rattle.scheme.proofs.Calls.{SetOk, set-ok}
+use Rattle.set_systems.proofs.reduce_across.Statement.{statement}
+use Rattle.set_systems.proofs.reduce_across.Tie as tie
+
+-- the places: `walk`, `dim` and the start from the load, the load from the reduction, the reduction from the end
+abbrev at-walk : tie.After-load-across-arg → tie.After-walk
+at-walk c = c .before .before .before .before
+
+abbrev at-dim : tie.After-load-across-arg → tie.After-dim
+at-dim c = c .before .before
+
+abbrev start : tie.After-load-across-arg → tie.Start
+start c = at-walk c .before .before .before .before .before
+
+abbrev at-load : tie.After-reduce-arg2 → tie.After-load-across
+at-load c = c .before .before .before .before
+
+abbrev at-reduce : tie.After-slice-known5 → tie.After-reduce
+at-reduce c = c .before .before .before .before
+
+-- what was required
+ok : (c : tie.After-load-across-arg) → SetOk (setupOf (start c .args .s) (start c .args .matrix .now)) (start c .args .set)
+ok c = set-ok _ _ (start c .pre .0)
+
+slice-aggregate-walk : tie.Need-slice-aggregate-walk
+slice-aggregate-walk c = search needs
+
+walk-requires : tie.Need-walk-requires
+walk-requires c κs = search needs
+
+dim-requires : tie.Need-dim-requires
+dim-requires c κs = search needs
+
+array-share-prefix-members : tie.Need-array-share-prefix-members
+array-share-prefix-members c = c .before .before .walk .ensures .fits
+
+slice-aggregate-load-across : tie.Need-slice-aggregate-load-across
+slice-aggregate-load-across c = let w = c .before .before .before .walk in sym (length-take-le (w .result) (w .last .1 .0) (w .ensures .fits))
+
+load-across-requires : tie.Need-load-across-requires
+load-across-requires c κs =
+    let w = at-walk c .walk .ensures in
+    let d = at-dim c .dim .ensures .0 in
+    (across-asks (ok c) w d (start c .args .q) (start c .pre .1), lie (ok c) w d)
+
+add-reduce : tie.Need-add-reduce
+add-reduce c = search needs
+
+reduce-requires : tie.Need-reduce-requires
+reduce-requires c κs =
+    let l = at-load c in
+    let i = l .before in
+    (across-ready (ok i) (at-walk i .walk .ensures) (at-dim i .dim .ensures .0) (start i .args .q) (start i .pre .1) (l .load-across .ensures), omega arith)
+
+same-length : tie.Need-same-length
+same-length c = search needs
+
+same-length-2 : tie.Need-same-length-2
+same-length-2 c = search needs
+
+returns : tie.Need-returns
+returns c =
+    let r = at-reduce c in
+    let l = at-load (r .before) in
+    let i = l .before in
+    across-reduced (ok i) (at-walk i .walk .ensures) (at-dim i .dim .ensures .0) (start i .args .q) (start i .pre .1) (l .load-across .ensures) (r .reduce .ensures)
+
+pub reduce-across-spec : {M : Type 1} → statement M
+reduce-across-spec =
+    tie.close
+    (tie.spec
+    slice-aggregate-walk
+    walk-requires
+    dim-requires
+    array-share-prefix-members
+    slice-aggregate-load-across
+    load-across-requires
+    add-reduce
+    reduce-requires
+    same-length
+    same-length-2
+    returns)
