@@ -18,6 +18,10 @@ Inv-loop a used rows width d l q₀ q = (q ≤ l) × (firstFrom (λ j. not (flat
 abbrev μ-loop : tie.MeasureT-loop
 μ-loop a used rows width d l q₀ q = l - q
 
+-- the position is not determined
+abbrev lacks : tie.At-loop Inv-loop μ-loop → ℕ → Bool
+lacks c j = let x = c .before .before .before .args in not (flatFixes (x .rows) (x .width) (x .d) (buffers (x .a .now) (x .used .now)) j)
+
 loop-holds : tie.Need-loop-holds Inv-loop μ-loop
 unfolding first
 loop-holds c = (search needs, rw sub-zero refl)
@@ -27,10 +31,8 @@ fixes-requires c κs = search needs
 
 returns : tie.Need-returns Inv-loop μ-loop
 returns c =
-    let x = c .before .before .before .before .before .before .args in
-    let t : ℕ → Bool = λ j. not (flatFixes (x .rows) (x .width) (x .d) (buffers (x .a .now) (x .used .now)) j) in
-    let l = c .before .before .before .loop in
-    sym (first-stop t (l .q) (x .l) (omega arith) (ap not (sym (c .before .fixes .ensures)) ∙ c .if1 .taken)) ∙ l .inv .1
+    let h = c .before .before .before in
+    sym (first-stop (lacks h) (h .loop .q) _ (omega arith) (ap not (sym (c .before .fixes .ensures)) ∙ c .if1 .taken)) ∙ h .loop .inv .1
 
 add-q : tie.Need-add-q Inv-loop μ-loop
 add-q c = search needs
@@ -40,17 +42,13 @@ loop-less c = search needs
 
 loop-again : tie.Need-loop-again Inv-loop μ-loop
 loop-again c =
-    let x = c .before .before .before .before .before .before .args in
-    let t : ℕ → Bool = λ j. not (flatFixes (x .rows) (x .width) (x .d) (buffers (x .a .now) (x .used .now)) j) in
-    let l = c .before .before .before .loop in
-    (search needs, sym (first-step t (l .q) (x .l) (omega arith) (ap not (sym (c .before .fixes .ensures)) ∙ c .if1 .left)) ∙ l .inv .1)
+    let h = c .before .before .before in
+    (search needs, sym (first-step (lacks h) (h .loop .q) _ (omega arith) (ap not (sym (c .before .fixes .ensures)) ∙ c .if1 .left)) ∙ h .loop .inv .1)
 
 returns-2 : tie.Need-returns-2 Inv-loop μ-loop
 returns-2 c =
-    let x = c .before .before .before .before .args in
-    let t : ℕ → Bool = λ j. not (flatFixes (x .rows) (x .width) (x .d) (buffers (x .a .now) (x .used .now)) j) in
-    let l = c .before .loop in
-    sym (first-end t (l .q) (x .l) (omega arith)) ∙ l .inv .1
+    let h = c .before in
+    sym (first-end (lacks h) (h .loop .q) _ (omega arith)) ∙ h .loop .inv .1
 
 pub lacking-spec : {M : Type 1} → statement M
 lacking-spec =

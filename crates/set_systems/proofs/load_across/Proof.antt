@@ -21,6 +21,18 @@ Inv-loop matrix d members q a₀ k c₀ a c = (c ≤ d) × (length a ≡ length 
 abbrev μ-loop : tie.MeasureT-loop
 μ-loop matrix d members q a₀ k c₀ a c = d - c
 
+-- the places: the start from the loop's head, a turn from its end
+abbrev start : tie.At-loop Inv-loop μ-loop → tie.Start Inv-loop μ-loop
+start c = c .before .before .before .before
+
+abbrev turn : tie.After-unit Inv-loop μ-loop → tie.In-loop Inv-loop μ-loop
+turn c = c .before .before .before .before .before
+
+-- equation c fits
+fits : (c : tie.In-loop Inv-loop μ-loop) → let x = start (c .before) .args in
+    c .before .loop .c * (length (x .members .now) + 1) + (length (x .members .now) + 1) ≤ x .d * (length (x .members .now) + 1)
+fits c = let x = start (c .before) .args in row-fits (x .d) (length (x .members .now) + 1) (c .before .loop .c) (omega arith)
+
 loop-holds : tie.Need-loop-holds Inv-loop μ-loop
 loop-holds c = (search needs, refl, rw zero-mul (filled-none _ _))
 
@@ -28,37 +40,25 @@ add-t : tie.Need-add-t Inv-loop μ-loop
 add-t c = search needs
 
 mul-t : tie.Need-mul-t Inv-loop μ-loop
-mul-t c =
-    let x = c .before .before .before .before .before .args in
-    let i = c .before .loop .c in
-    omega (arith, row-fits (x .d) (length (x .members .now) + 1) i (omega arith))
+mul-t c = omega (arith, fits c)
 
 gather-requires : tie.Need-gather-requires Inv-loop μ-loop
-gather-requires c κs =
-    let x = c .before .before .before .before .before .before .args in
-    let i = c .before .before .loop .c in
-    ((omega (arith, row-fits (x .d) (length (x .members .now) + 1) i (omega arith)), omega arith, omega arith), c .before .before .before .before .before .before .pre .1)
+gather-requires c κs = ((omega (arith, fits (c .before)), omega arith, omega arith), start (c .before .before) .pre .1)
 
 unit-requires : tie.Need-unit-requires Inv-loop μ-loop
 unit-requires c κs = search needs
 
 add-a : tie.Need-add-a Inv-loop μ-loop
-add-a c =
-    let x = c .before .before .before .before .before .before .before .before .before .before .args in
-    let i = c .before .before .before .before .before .before .loop .c in
-    omega (arith, row-fits (x .d) (length (x .members .now) + 1) i (omega arith))
+add-a c = omega (arith, fits (turn c))
 
 mul-a : tie.Need-mul-a Inv-loop μ-loop
-mul-a c =
-    let x = c .before .before .before .before .before .before .before .before .before .before .args in
-    let i = c .before .before .before .before .before .before .loop .c in
-    omega (arith, row-fits (x .d) (length (x .members .now) + 1) i (omega arith))
+mul-a c = omega (arith, fits (turn c))
 
 slice-write-a : tie.Need-slice-write-a Inv-loop μ-loop
 slice-write-a c =
-    let x = c .before .before .before .before .before .before .before .before .before .before .args in
-    let i = c .before .before .before .before .before .before .loop .c in
-    omega (arith, row-fits (x .d) (length (x .members .now) + 1) i (omega arith), ap length (c .before .before .before .gather .ensures), length-laid (λ j. entry (x .d) (x .matrix .now) (getD (x .members .now) j 0) i) (i * (length (x .members .now) + 1)) (length (x .members .now)) (c .before .before .before .before .before .before .loop .a))
+    let x = start (turn c .before) .args in
+    let l = turn c .before .loop in
+    omega (arith, fits (turn c), ap length (c .before .before .before .gather .ensures), length-laid (λ j. entry (x .d) (x .matrix .now) (getD (x .members .now) j 0) (l .c)) (l .c * (length (x .members .now) + 1)) (length (x .members .now)) (l .a))
 
 add-c : tie.Need-add-c Inv-loop μ-loop
 add-c c = search needs
@@ -68,18 +68,23 @@ loop-less c = search needs
 
 loop-again : tie.Need-loop-again Inv-loop μ-loop
 loop-again c =
-    let x = c .before .before .before .before .before .before .before .before .before .before .args in
-    let l = c .before .before .before .before .before .before .loop in
-    (search needs, simp length-set (ap length (c .before .before .before .gather .ensures) ∙ length-laid _ _ _ _ ∙ l .inv .1), rw (c .before .before .before .gather .ensures, c .unit .ensures) (across-row (x .d) (x .matrix .now) (x .members .now) (x .q) (l .c) (x .a .now) (l .a) (l .inv .2)))
+    let x = start (turn c .before) .args in
+    let l = turn c .before .loop in
+    let g = c .before .before .before .gather .ensures in
+    (
+      search needs,
+      simp length-set (ap length g ∙ length-laid _ _ _ _ ∙ l .inv .1),
+      rw (g, c .unit .ensures) (across-row (x .d) (x .matrix .now) (x .members .now) (x .q) (l .c) (x .a .now) (l .a) (l .inv .2)),
+    )
 
 same-length : tie.Need-same-length Inv-loop μ-loop
 same-length c = search needs
 
 returns : tie.Need-returns Inv-loop μ-loop
 returns c =
-    let x = c .before .before .before .before .before .args in
     let l = c .before .loop in
-    loaded-whole (x .d) (length (x .members .now) + 1) _ (l .c) (x .a .now) (l .a) (c .before .before .before .before .before .pre .0 .2) (omega arith) (l .inv .2)
+    let b = start (c .before) in
+    loaded-whole (b .args .d) (length (b .args .members .now) + 1) _ (l .c) (b .args .a .now) (l .a) (b .pre .0 .2) (omega arith) (l .inv .2)
 
 pub load-across-spec : {M : Type 1} → statement M
 load-across-spec =

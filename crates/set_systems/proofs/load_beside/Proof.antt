@@ -21,6 +21,18 @@ Inv-loop matrix d members shares a₀ i₀ a i = (i ≤ length members) × (leng
 abbrev μ-loop : tie.MeasureT-loop
 μ-loop matrix d members shares a₀ i₀ a i = length members - i
 
+-- the places: the start from the loop's head, a turn from its end
+abbrev start : tie.At-loop Inv-loop μ-loop → tie.Start Inv-loop μ-loop
+start c = c .before .before .before .before .before
+
+abbrev turn : tie.After-shared-slice-known4 Inv-loop μ-loop → tie.In-loop Inv-loop μ-loop
+turn c = c .before .before .before .before .before .before
+
+-- row i fits
+fits : (c : tie.In-loop Inv-loop μ-loop) → let x = start (c .before) .args in
+    c .before .loop .i * (x .d + 1) + (x .d + 1) ≤ length (x .members .now) * (x .d + 1)
+fits c = let x = start (c .before) .args in row-fits (length (x .members .now)) (x .d + 1) (c .before .loop .i) (omega arith)
+
 loop-holds : tie.Need-loop-holds Inv-loop μ-loop
 loop-holds c = (search needs, refl, rw zero-mul (filled-none _ _))
 
@@ -31,16 +43,12 @@ add-t : tie.Need-add-t Inv-loop μ-loop
 add-t c = search needs
 
 mul-t : tie.Need-mul-t Inv-loop μ-loop
-mul-t c =
-    let x = c .before .before .before .before .before .before .before .args in
-    let i = c .before .before .loop .i in
-    omega (arith, row-fits (length (x .members .now)) (x .d + 1) i (omega arith))
+mul-t c = omega (arith, fits (c .before))
 
 copy-requires : tie.Need-copy-requires Inv-loop μ-loop
 copy-requires c κs =
-    let x = c .before .before .before .before .before .before .before .before .args in
-    let i = c .before .before .before .loop .i in
-    omega (arith, row-fits (length (x .members .now)) (x .d + 1) i (omega arith), c .before .before .before .before .before .before .before .before .pre .1 .rows i (omega arith))
+    let l = c .before .before .before in
+    omega (arith, fits (c .before .before), start l .pre .1 .rows (l .loop .i) (omega arith))
 
 mul-a : tie.Need-mul-a Inv-loop μ-loop
 mul-a c = search needs
@@ -49,22 +57,15 @@ shared-slice-read-a : tie.Need-shared-slice-read-a Inv-loop μ-loop
 shared-slice-read-a c = search needs
 
 add-a : tie.Need-add-a Inv-loop μ-loop
-add-a c =
-    let x = c .before .before .before .before .before .before .before .before .before .before .before .before .args in
-    let i = c .before .before .before .before .before .before .before .loop .i in
-    omega (arith, row-fits (length (x .members .now)) (x .d + 1) i (omega arith))
+add-a c = omega (arith, fits (turn c))
 
 mul-a-2 : tie.Need-mul-a-2 Inv-loop μ-loop
-mul-a-2 c =
-    let x = c .before .before .before .before .before .before .before .before .before .before .before .before .args in
-    let i = c .before .before .before .before .before .before .before .loop .i in
-    omega (arith, row-fits (length (x .members .now)) (x .d + 1) i (omega arith))
+mul-a-2 c = omega (arith, fits (turn c))
 
 slice-write-a : tie.Need-slice-write-a Inv-loop μ-loop
 slice-write-a c =
-    let x = c .before .before .before .before .before .before .before .before .before .before .before .before .args in
-    let i = c .before .before .before .before .before .before .before .loop .i in
-    omega (arith, row-fits (length (x .members .now)) (x .d + 1) i (omega arith), ap length (c .before .before .before .copy .ensures), length-laid (λ j. getD (x .matrix .now) (c .before .before .before .before .before .row-start .result + j) 0) (i * (x .d + 1)) (x .d) (c .before .before .before .before .before .before .before .loop .a))
+    let k = c .before .before .before in
+    omega (arith, fits (turn c), ap length (k .copy .ensures), length-laid (λ j. getD (start (turn c .before) .args .matrix .now) (k .before .before .row-start .result + j) 0) (turn c .before .loop .i * (start (turn c .before) .args .d + 1)) (start (turn c .before) .args .d) (turn c .before .loop .a))
 
 add-i : tie.Need-add-i Inv-loop μ-loop
 add-i c = search needs
@@ -74,18 +75,24 @@ loop-less c = search needs
 
 loop-again : tie.Need-loop-again Inv-loop μ-loop
 loop-again c =
-    let x = c .before .before .before .before .before .before .before .before .before .before .before .before .args in
-    let l = c .before .before .before .before .before .before .before .loop in
-    (search needs, simp length-set (ap length (c .before .before .before .copy .ensures) ∙ length-laid _ _ _ _ ∙ l .inv .1), rw (c .before .before .before .copy .ensures) (beside-row (x .d) (x .matrix .now) (x .members .now) (x .shares .now) (l .i) (c .before .before .before .before .before .row-start .result) (x .a .now) (l .a) (c .before .before .before .before .before .row-start .ensures) (l .inv .2)))
+    let h = turn c .before in
+    let x = start h .args in
+    let k = c .before .before .before in
+    let from = k .before .before .row-start in
+    (
+      search needs,
+      simp length-set (ap length (k .copy .ensures) ∙ length-laid _ _ _ _ ∙ h .loop .inv .1),
+      rw (k .copy .ensures) (beside-row (x .d) (x .matrix .now) (x .members .now) (x .shares .now) (h .loop .i) (from .result) (x .a .now) (h .loop .a) (from .ensures) (h .loop .inv .2)),
+    )
 
 same-length : tie.Need-same-length Inv-loop μ-loop
 same-length c = search needs
 
 returns : tie.Need-returns Inv-loop μ-loop
 returns c =
-    let x = c .before .before .before .before .before .before .args in
     let l = c .before .loop in
-    loaded-whole (length (x .members .now)) (x .d + 1) _ (l .i) (x .a .now) (l .a) (c .before .before .before .before .before .before .pre .0 .2) (omega arith) (l .inv .2)
+    let b = start (c .before) in
+    loaded-whole (length (b .args .members .now)) (b .args .d + 1) _ (l .i) (b .args .a .now) (l .a) (b .pre .0 .2) (omega arith) (l .inv .2)
 
 pub load-beside-spec : {M : Type 1} → statement M
 load-beside-spec =
