@@ -11,7 +11,8 @@ ghost use Rattle.elimination.specs.Contracts.{buffers, Fits};
 ghost use Rattle.scheme.specs.Setup.{setupOf};
 ghost use Rattle.scheme.specs.Answers.{paperDecided, paperSetJudged};
 ghost use Rattle.scheme.specs.Sets.{holds, members};
-ghost use Rattle.scheme.specs.Calls.{setRules, privateCall, determinesCall, judgeSetRules, judgeSetCall};
+ghost use Rattle.scheme.specs.Calls.{privateCall, determinesCall, judgeSetRules, judgeSetCall};
+ghost use Rattle.set_systems.specs.Inner.{SetTaken};
 ghost use Rattle.set_questions.specs.Buffer.{SetBuffer};
 ghost use Rattle.set_questions.specs.Inner.{negated, RowSought, VectorSought};
 use scheme::Decided;
@@ -63,7 +64,7 @@ pub fn determines(s: Params, matrix: &[u16], set: u32) -> Decided
 // A RECONSTRUCTION ROW
 // Writes a reconstruction row for position q into one entry for each member, where there is one.
 fn seek_row(s: Params, matrix: &[u16], set: u32, q: usize, out: &mut [u16]) -> bool
-    requires { ⌜ refusal (setRules (setupOf s (now matrix)) set) ≡ 0 ⌝ }
+    requires { ⌜ SetTaken (setupOf s (now matrix)) set ⌝ }
     requires { ⌜ (q < s .l) × (length (now out) ≡ length (members 32 (holds set))) ⌝ }
     ensures { λ r. ⌜ RowSought (setupOf s (now (matrix .entry))) set q (now (out .entry)) r (now (out .exit)) ⌝ }
 {
@@ -124,7 +125,7 @@ fn write_sweep(s: Params, a: &[u16], used: &[u16], rows: usize, q: usize, out: &
 
 // Writes a sweeping vector for position q into d entries, where there is one.
 fn seek_vector(s: Params, matrix: &[u16], set: u32, q: usize, out: &mut [u16]) -> bool
-    requires { ⌜ refusal (setRules (setupOf s (now matrix)) set) ≡ 0 ⌝ }
+    requires { ⌜ SetTaken (setupOf s (now matrix)) set ⌝ }
     requires { ⌜ (q < s .l) × (length (now out) ≡ s .l + s .e) ⌝ }
     ensures { λ r. ⌜ VectorSought (setupOf s (now (matrix .entry))) set q (now (out .entry)) r (now (out .exit)) ⌝ }
 {

@@ -18,9 +18,9 @@ use Rattle.field.specs.Prime.{Prime}
 use Rattle.field.specs.Dot.{at}
 use Rattle.scheme.specs.Setup.{Setup, dim}
 use Rattle.scheme.specs.Sets.{holds, members, isPrivate}
-use Rattle.scheme.proofs.Calls.{SetOk, limits-prime, below-vec}
+use Rattle.scheme.proofs.Calls.{SetOk, set-ok, limits-prime, below-vec}
 use Rattle.scheme.proofs.Members.{member-at, members-le, members-wide}
-use Rattle.set_systems.specs.Inner.{membersOf, Walked, Lie, Fresh}
+use Rattle.set_systems.specs.Inner.{SetTaken, membersOf, Walked, Lie, Fresh}
 
 pub taken : (ms x : List ℕ) (k : ℕ) → k ≡ length ms → k ≤ length x → take k (filled (at ms) k x) ≡ ms
 taken ms x k e l =
@@ -38,7 +38,10 @@ untouched f (suc k) [] = refl
 untouched f (suc k) (a ∷ x) = untouched (λ i. f (suc i)) k x
 
 -- a set in order
-module _ {S : Setup} {s : ℕ} (ok : SetOk S s) where
+module _ {S : Setup} {s : ℕ} (taken-in : SetTaken S s) where
+  ok : SetOk S s
+  ok = set-ok S s (taken-in .accepted)
+
   pub prime-of : Prime (S .p)
   prime-of = limits-prime S (ok .setup .limits)
 
@@ -58,7 +61,7 @@ module _ {S : Setup} {s : ℕ} (ok : SetOk S s) where
   entry-small i j = below-vec (S .p) _ (S .M) (omega (arith, prime-of .big)) (ok .setup .matrix) (i * dim S + j)
 
 -- what the walk lists
-module _ {S : Setup} {s : ℕ} (ok : SetOk S s) {k : ℕ} {out before : List ℕ} (W : Walked s k before out) where
+module _ {S : Setup} {s : ℕ} (ok : SetTaken S s) {k : ℕ} {out before : List ℕ} (W : Walked s k before out) where
   pub counted : k ≡ length (membersOf S s)
   counted = W .count ∙ ap length (wide ok)
 

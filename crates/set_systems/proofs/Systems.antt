@@ -1,9 +1,9 @@
 -- The three systems: each is loaded row by row, the loaded buffer may be reduced, and reduced it shows the reduced system. Of the rows beside the shares
 -- also which positions have a row.
 -- beside-row, across-row, aside-row: a row more of each is loaded
--- x-asks, x-ready, x-reduced: what loading asks, that the loaded buffer may be reduced, and what it shows then
 -- beside-rows, beside-shares, beside-dot: what stands in the rows beside the shares, and how they multiply
--- beside-fits, eliminated, eliminated-le: the lowest position with no row is read off
+-- x-asks, x-loading: what loading the system asks, and that the loaded buffers may be reduced and then show it
+-- beside-fits, eliminated-le: what was eliminated lies in its buffers, and the lowest position with no row is at most ℓ
 -- determines-by, determines-not: that position says whether the set determines the secrets
 use mathlib.Core.Path.{_≡_, refl, sym, ap, _∙_}
 use mathlib.Core.Bool.{Bool, true, false, not, false≢true}
@@ -25,17 +25,16 @@ use Rattle.base.proofs.Sum.{unit-same, unit-other}
 use Rattle.field.specs.Dot.{at, dot}
 use Rattle.field.proofs.Dot.{dot-ext, dot-same}
 use Rattle.elimination.specs.Elimination.{reduced, turned, fixes, Shows, Position, fixed, free}
-use Rattle.elimination.specs.Contracts.{buffers, Fits, Ready, Reduction}
+use Rattle.elimination.specs.Contracts.{buffers, Fits}
 use Rattle.elimination.proofs.Reduced.{determined}
 use Rattle.elimination.proofs.Flat.{fixes-shows}
 use Rattle.scheme.specs.Setup.{Setup, dim}
 use Rattle.scheme.specs.Sets.{holds, members, hasRow, determines}
-use Rattle.scheme.proofs.Calls.{SetOk}
 use Rattle.scheme.proofs.Sets.{rows}
 use Rattle.scheme.proofs.Certificates.{row-in-hand, no-row}
-use Rattle.set_systems.specs.Inner.{membersOf, Walked, Fresh, beside, across, aside, lacking, BesideReduced, AcrossReduced, AsideReduced, Eliminated}
-use Rattle.set_systems.proofs.Load.{row-part, row-last, loaded-ready, reduced-loaded}
-use Rattle.set_systems.proofs.Members.{prime-of, wide, few, narrow, entry-small, counted, listed}
+use Rattle.set_systems.specs.Inner.{SetTaken, membersOf, Walked, Lie, Fresh, beside, across, aside, lacking, BesideReduced, AcrossReduced, AsideReduced, Eliminated}
+use Rattle.set_systems.proofs.Load.{row-part, row-last, Loading, loading}
+use Rattle.set_systems.proofs.Members.{prime-of, wide, few, narrow, entry-small, counted, listed, lie}
 
 -- A ROW MORE
 pub beside-row : (d : ℕ) (m ms xs : List ℕ) (i from : ℕ) (x a : List ℕ) → from ≡ at ms i * d → a ≡ filled (flat (d + 1) (beside d m ms xs)) (i * (d + 1)) x
@@ -74,103 +73,6 @@ aside-row l e m ms i from x a s h =
     (λ j o. rw (le-ltb (e + j) e (omega arith)) (ap (λ k. getD m k 0) (omega arith)))
     ∙ ap (λ k. filled (flat (l + e) G) k x) (omega arith)
 
--- LOADED AND REDUCED
-unit-small : (p q c : ℕ) → 1 < p → unit q c < p
-unit-small p q c h = either q c (unit q c < p) (λ e. rw (e, unit-same c) h) (λ e. rw (unit-other q c e) (omega arith))
-
-module _ {S : Setup} {s : ℕ} (ok : SetOk S s) {k : ℕ} {out before : List ℕ} (W : Walked s k before out) where
-  module _ {d : ℕ} (D : d ≡ dim S) {xs : List ℕ} (v : Vec (S .p) (length (members 32 (holds s))) xs) {x u : List ℕ}
-      (room : Fresh (length (members 32 (holds s))) (dim S + 1) x u) where
-    pub beside-asks : (d ≤ 16) × (length (take k out) ≡ length xs) × (length x ≡ length (take k out) * (d + 1))
-    beside-asks = rw (W .list, D) (narrow ok, sym (v .size), room .size)
-
-    module _ {a : List ℕ} (loaded : a ≡ tab (length x) (flat (d + 1) (beside d (S .M) (take k out) xs))) where
-      beside-room : Fresh (length (membersOf S s)) (dim S + 1) x u
-      beside-room = rw (wide ok) at room
-
-      beside-loaded : a ≡ tab (length x) (flat (dim S + 1) (beside (dim S) (S .M) (membersOf S s) xs))
-      beside-loaded = rw (D, listed ok W) at loaded
-
-      beside-small : (i j : ℕ) → i < length (membersOf S s) → j < dim S + 1 → beside (dim S) (S .M) (membersOf S s) xs i j < S .p
-      unfolding beside
-      beside-small i j l m = go (ltb j (dim S))
-        where
-          go : (b : Bool) → pick b (entry (dim S) (S .M) (at (membersOf S s) i) j) (at xs i) < S .p
-          go true = entry-small ok (at (membersOf S s) i) j
-          go false = v .small i (omega (arith, ap length (wide ok)))
-
-      pub beside-ready : Ready (S .p) k (d + 1) a u
-      beside-ready =
-          rw (D, counted ok W)
-          (loaded-ready (S .p) (length (membersOf S s)) (dim S + 1) (prime-of ok) _ beside-small x a u beside-room beside-loaded (omega (arith, narrow ok)))
-
-      pub beside-reduced : {b w : List ℕ} → Reduction (S .p) k (d + 1) d a u b w → BesideReduced S s xs b w
-      beside-reduced {b} {w} r = record {
-        shows = reduced-loaded (S .p) (length (membersOf S s)) (dim S + 1) (prime-of ok) _ beside-small x a u beside-room beside-loaded
-            (dim S) (omega arith) b w (rw (D, counted ok W) at r);
-      }
-
-  module _ {d : ℕ} (D : d ≡ dim S) (q : ℕ) {x u : List ℕ} (room : Fresh (dim S) (length (members 32 (holds s)) + 1) x u) where
-    pub across-asks : (d ≤ 16) × (length (take k out) ≤ 32) × (length x ≡ d * (length (take k out) + 1))
-    across-asks = rw (D, listed ok W) (narrow ok, few ok, rw (wide ok) at (room .size))
-
-    module _ {a : List ℕ} (loaded : a ≡ tab (length x) (flat (length (take k out) + 1) (across d (S .M) (take k out) q))) where
-      across-room : Fresh (dim S) (length (membersOf S s) + 1) x u
-      across-room = rw (wide ok) at room
-
-      across-loaded : a ≡ tab (length x) (flat (length (membersOf S s) + 1) (across (dim S) (S .M) (membersOf S s) q))
-      across-loaded = rw (D, listed ok W) at loaded
-
-      across-small : (i j : ℕ) → i < dim S → j < length (membersOf S s) + 1 → across (dim S) (S .M) (membersOf S s) q i j < S .p
-      unfolding across
-      across-small i j l m = go (ltb j (length (membersOf S s)))
-        where
-          go : (b : Bool) → pick b (entry (dim S) (S .M) (at (membersOf S s) j) i) (unit q i) < S .p
-          go true = entry-small ok (at (membersOf S s) j) i
-          go false = unit-small (S .p) q i (prime-of ok .big)
-
-      pub across-ready : Ready (S .p) d (k + 1) a u
-      across-ready =
-          rw (D, counted ok W)
-          (loaded-ready (S .p) (dim S) (length (membersOf S s) + 1) (prime-of ok) _ across-small x a u across-room across-loaded (omega (arith, few ok)))
-
-      pub across-reduced : {b w : List ℕ} → Reduction (S .p) d (k + 1) k a u b w → AcrossReduced S s q b w
-      across-reduced {b} {w} r = record {
-        shows = reduced-loaded (S .p) (dim S) (length (membersOf S s) + 1) (prime-of ok) _ across-small x a u across-room across-loaded
-            (length (membersOf S s)) (omega arith) b w (rw (D, counted ok W) at r);
-      }
-
-  module _ {x u : List ℕ} (room : Fresh (length (members 32 (holds s))) (dim S) x u) where
-    pub aside-asks : (dim S ≤ 16) × (length (take k out) ≤ 32) × (length x ≡ length (take k out) * dim S)
-    aside-asks = rw (listed ok W) (narrow ok, few ok, rw (wide ok) at (room .size))
-
-    module _ {a : List ℕ} (loaded : a ≡ tab (length x) (flat (dim S) (aside (S .l) (S .e) (S .M) (take k out)))) where
-      aside-room : Fresh (length (membersOf S s)) (dim S) x u
-      aside-room = rw (wide ok) at room
-
-      aside-loaded : a ≡ tab (length x) (flat (dim S) (aside (S .l) (S .e) (S .M) (membersOf S s)))
-      aside-loaded = rw (listed ok W) at loaded
-
-      aside-small : (i j : ℕ) → i < length (membersOf S s) → j < dim S → aside (S .l) (S .e) (S .M) (membersOf S s) i j < S .p
-      unfolding turned
-      aside-small i j l m = go (ltb j (S .e))
-        where
-          go : (b : Bool)
-              → pick b (entry (dim S) (S .M) (at (membersOf S s) i) (S .l + j)) (entry (dim S) (S .M) (at (membersOf S s) i) (j - S .e)) < S .p
-          go true = entry-small ok (at (membersOf S s) i) (S .l + j)
-          go false = entry-small ok (at (membersOf S s) i) (j - S .e)
-
-      pub aside-ready : Ready (S .p) k (dim S) a u
-      aside-ready =
-          rw (counted ok W)
-          (loaded-ready (S .p) (length (membersOf S s)) (dim S) (prime-of ok) _ aside-small x a u aside-room aside-loaded (omega (arith, narrow ok)))
-
-      pub aside-reduced : {b w : List ℕ} → Reduction (S .p) k (dim S) (S .e) a u b w → AsideReduced S s b w
-      aside-reduced {b} {w} r = record {
-        shows = reduced-loaded (S .p) (length (membersOf S s)) (dim S) (prime-of ok) _ aside-small x a u aside-room aside-loaded
-            (S .e) (omega arith) b w (rw (counted ok W) at r);
-      }
-
 -- WHICH POSITIONS HAVE A ROW
 module _ (S : Setup) (s : ℕ) (xs : List ℕ) where
   pub beside-rows : (i j : ℕ) → j < dim S → beside (dim S) (S .M) (membersOf S s) xs i j ≡ rows S (holds s) i j
@@ -184,16 +86,15 @@ module _ (S : Setup) (s : ℕ) (xs : List ℕ) where
   pub beside-dot : (i : ℕ) (x : ℕ → ℕ) → dot (dim S) (rows S (holds s) i) x ≡ dot (dim S) (beside (dim S) (S .M) (membersOf S s) xs i) x
   beside-dot i x = dot-same (dim S) _ _ _ _ (λ j l. sym (beside-rows i j l)) (λ j l. refl)
 
-module _ {S : Setup} {s : ℕ} (ok : SetOk S s) (xs : List ℕ) where
-  A : ℕ → ℕ → ℕ
+module _ {S : Setup} {s : ℕ} (ok : SetTaken S s) (xs : List ℕ) where
+  abbrev A : ℕ → ℕ → ℕ
   A = beside (dim S) (S .M) (membersOf S s) xs
 
-  k : ℕ
+  abbrev k : ℕ
   k = length (membersOf S s)
 
   -- a position is determined exactly where it has a row
   fixes-has : (q : ℕ) → q < S .l → fixes k (dim S) (reduced (S .p) k (dim S) A) q ≡ hasRow S (holds s) q
-  unfolding A k
   fixes-has q l = go (fixes k (dim S) (reduced (S .p) k (dim S) A) q) (determined (S .p) (prime-of ok) k (dim S) A q (omega arith))
     where
       go : (b : Bool) → Position (S .p) k (dim S) A q b → b ≡ hasRow S (holds s) q
@@ -209,15 +110,70 @@ module _ {S : Setup} {s : ℕ} (ok : SetOk S s) (xs : List ℕ) where
   lowest-is a u shows =
       first-ext _ _ (S .l) (λ q l. ap not (fixes-shows (S .p) k (dim S + 1) (buffers a u) _ shows (dim S) (omega arith) q ∙ fixes-has q l))
 
-module _ {S : Setup} {s : ℕ} (ok : SetOk S s) {xs a u : List ℕ} {n d : ℕ} (K : n ≡ length (members 32 (holds s))) (D : d ≡ dim S)
-    (R : BesideReduced S s xs a u) where
-  pub beside-fits : Fits n (d + 1) a u
-  beside-fits =
-      rw (D, K, wide ok) (record { size = R .shows .size; marks = R .shows .marks; narrow = omega (arith, narrow ok) })
+-- LOADED AND REDUCED
+unit-small : (p q c : ℕ) → 1 < p → unit q c < p
+unit-small p q c h = either q c (unit q c < p) (λ e. rw (e, unit-same c) h) (λ e. rw (unit-other q c e) (omega arith))
 
-  pub eliminated : {r : ℕ} → r ≡ lacking n (d + 1) d (S .l) (buffers a u) → Eliminated S s xs a u r
-  unfolding A k
-  eliminated e = record { system = R; lowest = (rw (D, K, wide ok) at e) ∙ lowest-is ok xs a u (R .shows) }
+module _ {S : Setup} {s : ℕ} (ok : SetTaken S s) {k : ℕ} {out before : List ℕ} (W : Walked s k before out) where
+  module _ {d : ℕ} (D : d ≡ dim S) {xs : List ℕ} (v : Vec (S .p) (length (members 32 (holds s))) xs) {x u : List ℕ}
+      (room : Fresh (length (members 32 (holds s))) (dim S + 1) x u) where
+    pub beside-asks : ((d ≤ 16) × (length (take k out) ≡ length xs) × (length x ≡ length (take k out) * (d + 1))) × Lie d (S .M) (take k out)
+    beside-asks = (rw (W .list, D) (narrow ok, sym (v .size), room .size), lie ok W D)
+
+    beside-small : (i j : ℕ) → i < length (membersOf S s) → j < dim S + 1 → beside (dim S) (S .M) (membersOf S s) xs i j < S .p
+    unfolding beside
+    beside-small i j l m = go (ltb j (dim S))
+      where
+        go : (b : Bool) → pick b (entry (dim S) (S .M) (at (membersOf S s) i) j) (at xs i) < S .p
+        go true = entry-small ok (at (membersOf S s) i) j
+        go false = v .small i (omega (arith, ap length (wide ok)))
+
+    pub beside-loading : Loading (S .p) k (d + 1) d (flat (d + 1) (beside d (S .M) (take k out) xs)) x u
+        (λ b w. (r : ℕ) → r ≡ lacking k (d + 1) d (S .l) (buffers b w) → Eliminated S s xs b w r)
+    beside-loading =
+        rw (listed ok W, D, counted ok W) (loading (prime-of ok) _ beside-small (rw (wide ok) at room) (omega (arith, narrow ok)) (dim S) (omega arith) _
+        (λ b w h r e. record { system = record { shows = h }; lowest = e ∙ lowest-is ok xs b w h }))
+
+  module _ {d : ℕ} (D : d ≡ dim S) (q : ℕ) {x u : List ℕ} (room : Fresh (dim S) (length (members 32 (holds s)) + 1) x u) where
+    pub across-asks : ((d ≤ 16) × (length (take k out) ≤ 32) × (length x ≡ d * (length (take k out) + 1))) × Lie d (S .M) (take k out)
+    across-asks = (rw (D, listed ok W) (narrow ok, few ok, rw (wide ok) at (room .size)), lie ok W D)
+
+    across-small : (i j : ℕ) → i < dim S → j < length (membersOf S s) + 1 → across (dim S) (S .M) (membersOf S s) q i j < S .p
+    unfolding across
+    across-small i j l m = go (ltb j (length (membersOf S s)))
+      where
+        go : (b : Bool) → pick b (entry (dim S) (S .M) (at (membersOf S s) j) i) (unit q i) < S .p
+        go true = entry-small ok (at (membersOf S s) j) i
+        go false = unit-small (S .p) q i (prime-of ok .big)
+
+    pub across-loading : Loading (S .p) d (k + 1) k (flat (length (take k out) + 1) (across d (S .M) (take k out) q)) x u (AcrossReduced S s q)
+    across-loading =
+        rw (listed ok W, D, counted ok W) (loading (prime-of ok) _ across-small (rw (wide ok) at room) (omega (arith, few ok)) _ (omega arith) _
+        (λ b w h. record { shows = h }))
+
+  module _ {x u : List ℕ} (room : Fresh (length (members 32 (holds s))) (dim S) x u) where
+    pub aside-asks : ((dim S ≤ 16) × (length (take k out) ≤ 32) × (length x ≡ length (take k out) * dim S)) × Lie (dim S) (S .M) (take k out)
+    aside-asks = (rw (listed ok W) (narrow ok, few ok, rw (wide ok) at (room .size)), lie ok W refl)
+
+    aside-small : (i j : ℕ) → i < length (membersOf S s) → j < dim S → aside (S .l) (S .e) (S .M) (membersOf S s) i j < S .p
+    unfolding turned
+    aside-small i j l m = go (ltb j (S .e))
+      where
+        go : (b : Bool)
+            → pick b (entry (dim S) (S .M) (at (membersOf S s) i) (S .l + j)) (entry (dim S) (S .M) (at (membersOf S s) i) (j - S .e)) < S .p
+        go true = entry-small ok (at (membersOf S s) i) (S .l + j)
+        go false = entry-small ok (at (membersOf S s) i) (j - S .e)
+
+    pub aside-loading : Loading (S .p) k (dim S) (S .e) (flat (dim S) (aside (S .l) (S .e) (S .M) (take k out))) x u (AsideReduced S s)
+    aside-loading =
+        rw (listed ok W, counted ok W) (loading (prime-of ok) _ aside-small (rw (wide ok) at room) (omega (arith, narrow ok)) (S .e) (omega arith) _
+        (λ b w h. record { shows = h }))
+
+-- n rows of d + 1 entries, reduced
+pub beside-fits : {S : Setup} {s : ℕ} (ok : SetTaken S s) {xs a u : List ℕ} {n d : ℕ} → n ≡ length (members 32 (holds s)) → d ≡ dim S
+    → BesideReduced S s xs a u → Fits n (d + 1) a u
+beside-fits ok K D R =
+    rw (D, K, wide ok) (record { size = R .shows .size; marks = R .shows .marks; narrow = omega (arith, narrow ok) })
 
 pub eliminated-le : {S : Setup} {s : ℕ} {xs a u : List ℕ} {r : ℕ} → Eliminated S s xs a u r → r ≤ S .l
 eliminated-le {S} {s} E = rw (E .lowest) (first-le (λ q. not (hasRow S (holds s) q)) (S .l))

@@ -1,5 +1,6 @@
 -- Contracts of inner functions: what the functions of sets ask and leave, and the three systems that they make. Records, so that a field more moves no
 -- caller. m is the matrix M of rows of d entries, ms the members by rising holder, xs their shares.
+-- SetTaken: the table of the calls on sets refuses nothing
 -- membersOf: the members of the set s, by rising holder
 -- Walked: the members stand at the start of the list, k of them, and what stands behind them is as it was before
 -- Lie: the members' rows lie in the matrix
@@ -18,6 +19,7 @@ use lib.Dec.{ltb}
 use lib.ListN.{length, take, drop}
 use Rattle.base.specs.Choice.{pick}
 use Rattle.base.specs.Matrix.{entry}
+use Rattle.base.specs.Rules.{refusal}
 use Rattle.base.specs.Search.{first}
 use Rattle.base.specs.Sum.{unit}
 use Rattle.field.specs.Dot.{at}
@@ -25,8 +27,12 @@ use Rattle.elimination.specs.Elimination.{Flat, turned, flatFixes, reduced, Sho
 use Rattle.elimination.specs.Contracts.{buffers}
 use Rattle.scheme.specs.Setup.{Setup, dim}
 use Rattle.scheme.specs.Sets.{holds, members, hasRow}
+use Rattle.scheme.specs.Calls.{setRules}
 
 -- MEMBERS AND BUFFERS
+pub record SetTaken (S : Setup) (s : ℕ) : Type 0 where
+  pub accepted : refusal (setRules S s) ≡ 0
+
 abbrev pub membersOf : Setup → ℕ → List ℕ
 membersOf S s = members (S .n) (holds s)
 

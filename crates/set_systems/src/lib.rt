@@ -12,7 +12,7 @@ ghost use Rattle.elimination.specs.Contracts.{buffers, Fits};
 ghost use Rattle.scheme.specs.Setup.{setupOf};
 ghost use Rattle.scheme.specs.Sets.{holds, members};
 ghost use Rattle.scheme.specs.Calls.{beyond, setRules};
-ghost use Rattle.set_systems.specs.Inner.{Walked, Lie, Fresh, beside, across, aside, lacking, Eliminated, AcrossReduced, AsideReduced};
+ghost use Rattle.set_systems.specs.Inner.{SetTaken, Walked, Lie, Fresh, beside, across, aside, lacking, AcrossReduced, AsideReduced, Eliminated};
 use scheme::Params;
 
 // MEMBERS
@@ -110,7 +110,7 @@ pub fn reduce_beside(
     a: &mut [u16],
     used: &mut [u16],
 ) -> usize
-    requires { ⌜ refusal (setRules (setupOf s (now matrix)) set) ≡ 0 ⌝ }
+    requires { ⌜ SetTaken (setupOf s (now matrix)) set ⌝ }
     requires { ⌜ Vec (s .p) (length (members 32 (holds set))) (now shares) ⌝ }
     requires { ⌜ Fresh (length (members 32 (holds set))) (s .l + s .e + 1) (now a) (now used) ⌝ }
     ensures { λ r. ⌜ Eliminated (setupOf s (now (matrix .entry))) set (now (shares .entry)) (now (a .exit)) (now (used .exit)) r ⌝ }
@@ -163,7 +163,7 @@ fn load_across(matrix: &[u16], d: usize, members: &[u16], q: usize, a: &mut [u16
 
 // Eliminates the d equations for a reconstruction row at position q.
 pub fn reduce_across(s: Params, matrix: &[u16], set: u32, q: usize, a: &mut [u16], used: &mut [u16])
-    requires { ⌜ refusal (setRules (setupOf s (now matrix)) set) ≡ 0 ⌝ }
+    requires { ⌜ SetTaken (setupOf s (now matrix)) set ⌝ }
     requires { ⌜ Fresh (s .l + s .e) (length (members 32 (holds set)) + 1) (now a) (now used) ⌝ }
     ensures { λ _. ⌜ AcrossReduced (setupOf s (now (matrix .entry))) set q (now (a .exit)) (now (used .exit)) ⌝ }
 {
@@ -194,7 +194,7 @@ fn load_aside(matrix: &[u16], l: usize, e: usize, members: &[u16], a: &mut [u16]
 
 // Eliminates the last e columns of the members' rows, with the secret columns beside them.
 pub fn reduce_aside(s: Params, matrix: &[u16], set: u32, a: &mut [u16], used: &mut [u16])
-    requires { ⌜ refusal (setRules (setupOf s (now matrix)) set) ≡ 0 ⌝ }
+    requires { ⌜ SetTaken (setupOf s (now matrix)) set ⌝ }
     requires { ⌜ Fresh (length (members 32 (holds set))) (s .l + s .e) (now a) (now used) ⌝ }
     ensures { λ _. ⌜ AsideReduced (setupOf s (now (matrix .entry))) set (now (a .exit)) (now (used .exit)) ⌝ }
 {
