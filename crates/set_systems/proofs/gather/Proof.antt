@@ -1,5 +1,5 @@
 -- The loop writes the entries in order.
-use Prim.Native.Nat.{_+_, _-_, _*_, _≤_}
+use Prim.Native.Nat.{_+_, _-_, _≤_}
 use mathlib.Core.Path.{_≡_, refl, ap, _∙_}
 use native.Mathlib.Omega.{arith}
 use borrow.Author.Needs.{needs}
@@ -19,11 +19,6 @@ abbrev μ-loop : tie.MeasureT-loop
 abbrev start : tie.At-loop Inv-loop μ-loop → tie.Start Inv-loop μ-loop
 start c = c .before .before .before .before
 
--- the row of the member that the turn is at lies inside
-lies : (c : tie.In-loop Inv-loop μ-loop) → let x = start (c .before) .args in
-    getD (x .members .now) (c .before .loop .i) 0 * x .d + x .d ≤ length (x .m .now)
-lies c = start (c .before) .pre .1 .rows (c .before .loop .i) (omega arith)
-
 loop-holds : tie.Need-loop-holds Inv-loop μ-loop
 loop-holds c = (search needs, refl, laid-none _ _ _)
 
@@ -31,13 +26,13 @@ row-start-requires : tie.Need-row-start-requires Inv-loop μ-loop
 row-start-requires c κs = search needs
 
 add-a : tie.Need-add-a Inv-loop μ-loop
-add-a c = omega (arith, lies (c .before))
+add-a c = let h = c .before .before in omega (arith, start h .pre .1 .rows (h .loop .i) (omega arith))
 
 mul-a : tie.Need-mul-a Inv-loop μ-loop
-mul-a c = omega (arith, lies (c .before))
+mul-a c = let h = c .before .before in omega (arith, start h .pre .1 .rows (h .loop .i) (omega arith))
 
 shared-slice-read-a : tie.Need-shared-slice-read-a Inv-loop μ-loop
-shared-slice-read-a c = omega (arith, lies (c .before .before))
+shared-slice-read-a c = let h = c .before .before .before in omega (arith, start h .pre .1 .rows (h .loop .i) (omega arith))
 
 add-a-2 : tie.Need-add-a-2 Inv-loop μ-loop
 add-a-2 c = search needs
@@ -56,19 +51,16 @@ loop-less c = search needs
 
 loop-again : tie.Need-loop-again Inv-loop μ-loop
 loop-again c =
-    let l = c .before .before .before in
-    let x = start l .args in
-    (search needs, search needs, laid-store _ _ _ _ _ _ (l .loop .inv .2) (ap (λ from. getD (x .m .now) (from + x .c) 0) (c .before .row-start .ensures)))
+    let h = c .before .before .before in let x = start h .args in
+    (search needs, search needs, laid-store _ _ _ _ _ _ (h .loop .inv .2) (ap (λ from. getD (x .m .now) (from + x .c) 0) (c .before .row-start .ensures)))
 
 same-length : tie.Need-same-length Inv-loop μ-loop
 same-length c = search needs
 
 returns : tie.Need-returns Inv-loop μ-loop
 returns c =
-    let l = c .before in
-    let x = start l .args in
-    let e : l .loop .i ≡ length (x .members .now) = omega arith in
-    l .loop .inv .2 ∙ ap (λ n. laid (λ i. entry (x .d) (x .m .now) (getD (x .members .now) i 0) (x .c)) (x .t) n (x .a .now)) e
+    let l = c .before .loop in let x = start (c .before) .args in let e : l .i ≡ length (x .members .now) = omega arith in
+    l .inv .2 ∙ ap (λ n. laid (λ i. entry (x .d) (x .m .now) (getD (x .members .now) i 0) (x .c)) (x .t) n (x .a .now)) e
 
 pub gather-spec : {M : Type 1} → statement M
 gather-spec =

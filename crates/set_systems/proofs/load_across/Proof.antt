@@ -21,7 +21,6 @@ Inv-loop matrix d members q a₀ k c₀ a c = (c ≤ d) × (length a ≡ length 
 abbrev μ-loop : tie.MeasureT-loop
 μ-loop matrix d members q a₀ k c₀ a c = d - c
 
--- the places: the start from the loop's head, a turn from its end
 abbrev start : tie.At-loop Inv-loop μ-loop → tie.Start Inv-loop μ-loop
 start c = c .before .before .before .before
 
@@ -56,8 +55,7 @@ mul-a c = omega (arith, fits (turn c))
 
 slice-write-a : tie.Need-slice-write-a Inv-loop μ-loop
 slice-write-a c =
-    let x = start (turn c .before) .args in
-    let l = turn c .before .loop in
+    let x = start (turn c .before) .args in let l = turn c .before .loop in
     omega (arith, fits (turn c), ap length (c .before .before .before .gather .ensures), length-laid (λ j. entry (x .d) (x .matrix .now) (getD (x .members .now) j 0) (l .c)) (l .c * (length (x .members .now) + 1)) (length (x .members .now)) (l .a))
 
 add-c : tie.Need-add-c Inv-loop μ-loop
@@ -68,22 +66,15 @@ loop-less c = search needs
 
 loop-again : tie.Need-loop-again Inv-loop μ-loop
 loop-again c =
-    let x = start (turn c .before) .args in
-    let l = turn c .before .loop in
-    let g = c .before .before .before .gather .ensures in
-    (
-      search needs,
-      simp length-set (ap length g ∙ length-laid _ _ _ _ ∙ l .inv .1),
-      rw (g, c .unit .ensures) (across-row (x .d) (x .matrix .now) (x .members .now) (x .q) (l .c) (x .a .now) (l .a) (l .inv .2)),
-    )
+    let x = start (turn c .before) .args in let l = turn c .before .loop in let g = c .before .before .before .gather .ensures in
+    (search needs, simp length-set (ap length g ∙ length-laid _ _ _ _ ∙ l .inv .1), rw (g, c .unit .ensures) (across-row (x .d) (x .matrix .now) (x .members .now) (x .q) (l .c) (x .a .now) (l .a) (l .inv .2)))
 
 same-length : tie.Need-same-length Inv-loop μ-loop
 same-length c = search needs
 
 returns : tie.Need-returns Inv-loop μ-loop
 returns c =
-    let l = c .before .loop in
-    let b = start (c .before) in
+    let l = c .before .loop in let b = start (c .before) in
     loaded-whole (b .args .d) (length (b .args .members .now) + 1) _ (l .c) (b .args .a .now) (l .a) (b .pre .0 .2) (omega arith) (l .inv .2)
 
 pub load-across-spec : {M : Type 1} → statement M

@@ -21,24 +21,16 @@ Inv-loop matrix l e members a₀ d i₀ a i = (i ≤ length members) × (length 
 abbrev μ-loop : tie.MeasureT-loop
 μ-loop matrix l e members a₀ d i₀ a i = length members - i
 
--- the places: the start from the loop's head, a turn from where its second copy is asked, and that from the turn's end
 abbrev start : tie.At-loop Inv-loop μ-loop → tie.Start Inv-loop μ-loop
 start c = c .before .before .before .before
 
 abbrev turn : tie.After-copy-arg2 Inv-loop μ-loop → tie.In-loop Inv-loop μ-loop
 turn c = c .before .before .before .before .before .before
 
-abbrev at-second : tie.After-slice-known3 Inv-loop μ-loop → tie.After-copy2 Inv-loop μ-loop
-at-second c = c .before .before
-
 -- row i fits, and the row of the member lies inside
-fits : (c : tie.In-loop Inv-loop μ-loop) → let x = start (c .before) .args in
-    c .before .loop .i * (x .l + x .e) + (x .l + x .e) ≤ length (x .members .now) * (x .l + x .e)
-fits c = let x = start (c .before) .args in row-fits (length (x .members .now)) (x .l + x .e) (c .before .loop .i) (omega arith)
-
-lies : (c : tie.In-loop Inv-loop μ-loop) → let x = start (c .before) .args in
-    getD (x .members .now) (c .before .loop .i) 0 * (x .l + x .e) + (x .l + x .e) ≤ length (x .matrix .now)
-lies c = start (c .before) .pre .1 .rows (c .before .loop .i) (omega arith)
+row : (c : tie.In-loop Inv-loop μ-loop) → let x = start (c .before) .args in let i = c .before .loop .i in let d = x .l + x .e in
+    (i * d + d ≤ length (x .members .now) * d) × (getD (x .members .now) i 0 * d + d ≤ length (x .matrix .now))
+row c = let b = start (c .before) in (row-fits (length (b .args .members .now)) _ _ (omega arith), b .pre .1 .rows (c .before .loop .i) (omega arith))
 
 add-d : tie.Need-add-d Inv-loop μ-loop
 add-d c = search needs
@@ -50,24 +42,22 @@ row-start-requires : tie.Need-row-start-requires Inv-loop μ-loop
 row-start-requires c κs = search needs
 
 mul-t : tie.Need-mul-t Inv-loop μ-loop
-mul-t c = omega (arith, fits (c .before))
+mul-t c = omega (arith, row (c .before))
 
 add-copy : tie.Need-add-copy Inv-loop μ-loop
-add-copy c = omega (arith, fits (c .before .before), lies (c .before .before))
+add-copy c = omega (arith, row (c .before .before))
 
 copy-requires : tie.Need-copy-requires Inv-loop μ-loop
-copy-requires c κs = omega (arith, fits (c .before .before), lies (c .before .before))
+copy-requires c κs = omega (arith, row (c .before .before))
 
 add-copy-2 : tie.Need-add-copy-2 Inv-loop μ-loop
-add-copy-2 c = omega (arith, fits (turn c), lies (turn c))
+add-copy-2 c = omega (arith, row (turn c))
 
 copy-requires-2 : tie.Need-copy-requires-2 Inv-loop μ-loop
 copy-requires-2 c κs =
-    let k = c .before .before .before in
-    let x = start (turn c .before) .args in
-    let l = turn c .before .loop in
+    let k = c .before .before .before in let x = start (turn c .before) .args in let l = turn c .before .loop in
     let e = ap length (k .copy .ensures) ∙ length-laid (λ j. getD (x .matrix .now) (k .before .before .row-start .result + x .l + j) 0) (l .i * (x .l + x .e)) (x .e) (l .a) in
-    (omega (arith, fits (turn c), e), omega (arith, lies (turn c)))
+    (omega (arith, row (turn c), e), omega (arith, row (turn c)))
 
 add-i : tie.Need-add-i Inv-loop μ-loop
 add-i c = search needs
@@ -77,25 +67,15 @@ loop-less c = search needs
 
 loop-again : tie.Need-loop-again Inv-loop μ-loop
 loop-again c =
-    let second = at-second c in
-    let h = turn (second .before) .before in
-    let x = start h .args in
-    let first = second .before .before .before .before in
-    let from = first .before .before .row-start in
-    (
-      search needs,
-      ap length (second .copy2 .ensures) ∙ length-laid _ _ _ _ ∙ ap length (first .copy .ensures) ∙ length-laid _ _ _ _ ∙ h .loop .inv .1,
-      second .copy2 .ensures ∙ ap (laid (λ j. getD (x .matrix .now) (from .result + j) 0) (h .loop .i * (x .l + x .e) + x .e) (x .l)) (first .copy .ensures)
-          ∙ aside-row (x .l) (x .e) (x .matrix .now) (x .members .now) (h .loop .i) (from .result) (x .a .now) (h .loop .a) (from .ensures) (h .loop .inv .2),
-    )
+    let s = c .before .before in let f = s .before .before .before .before in let from = f .before .before .row-start in let h = turn (s .before) .before in let x = start h .args in
+    (search needs, ap length (s .copy2 .ensures) ∙ length-laid _ _ _ _ ∙ ap length (f .copy .ensures) ∙ length-laid _ _ _ _ ∙ h .loop .inv .1, s .copy2 .ensures ∙ ap (laid (λ j. getD (x .matrix .now) (from .result + j) 0) (h .loop .i * (x .l + x .e) + x .e) (x .l)) (f .copy .ensures) ∙ aside-row (x .l) (x .e) (x .matrix .now) (x .members .now) (h .loop .i) (from .result) (x .a .now) (h .loop .a) (from .ensures) (h .loop .inv .2))
 
 same-length : tie.Need-same-length Inv-loop μ-loop
 same-length c = search needs
 
 returns : tie.Need-returns Inv-loop μ-loop
 returns c =
-    let l = c .before .loop in
-    let b = start (c .before) in
+    let l = c .before .loop in let b = start (c .before) in
     loaded-whole (length (b .args .members .now)) (b .args .l + b .args .e) _ (l .i) (b .args .a .now) (l .a) (b .pre .0 .2) (omega arith) (l .inv .2)
 
 pub load-aside-spec : {M : Type 1} → statement M

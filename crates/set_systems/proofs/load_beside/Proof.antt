@@ -21,7 +21,6 @@ Inv-loop matrix d members shares a₀ i₀ a i = (i ≤ length members) × (leng
 abbrev μ-loop : tie.MeasureT-loop
 μ-loop matrix d members shares a₀ i₀ a i = length members - i
 
--- the places: the start from the loop's head, a turn from its end
 abbrev start : tie.At-loop Inv-loop μ-loop → tie.Start Inv-loop μ-loop
 start c = c .before .before .before .before .before
 
@@ -46,9 +45,7 @@ mul-t : tie.Need-mul-t Inv-loop μ-loop
 mul-t c = omega (arith, fits (c .before))
 
 copy-requires : tie.Need-copy-requires Inv-loop μ-loop
-copy-requires c κs =
-    let l = c .before .before .before in
-    omega (arith, fits (c .before .before), start l .pre .1 .rows (l .loop .i) (omega arith))
+copy-requires c κs = let h = c .before .before .before in omega (arith, fits (c .before .before), start h .pre .1 .rows (h .loop .i) (omega arith))
 
 mul-a : tie.Need-mul-a Inv-loop μ-loop
 mul-a c = search needs
@@ -64,8 +61,8 @@ mul-a-2 c = omega (arith, fits (turn c))
 
 slice-write-a : tie.Need-slice-write-a Inv-loop μ-loop
 slice-write-a c =
-    let k = c .before .before .before in
-    omega (arith, fits (turn c), ap length (k .copy .ensures), length-laid (λ j. getD (start (turn c .before) .args .matrix .now) (k .before .before .row-start .result + j) 0) (turn c .before .loop .i * (start (turn c .before) .args .d + 1)) (start (turn c .before) .args .d) (turn c .before .loop .a))
+    let h = turn c .before in let x = start h .args in let k = c .before .before .before in
+    omega (arith, fits (turn c), ap length (k .copy .ensures), length-laid (λ j. getD (x .matrix .now) (k .before .before .row-start .result + j) 0) (h .loop .i * (x .d + 1)) (x .d) (h .loop .a))
 
 add-i : tie.Need-add-i Inv-loop μ-loop
 add-i c = search needs
@@ -75,23 +72,15 @@ loop-less c = search needs
 
 loop-again : tie.Need-loop-again Inv-loop μ-loop
 loop-again c =
-    let h = turn c .before in
-    let x = start h .args in
-    let k = c .before .before .before in
-    let from = k .before .before .row-start in
-    (
-      search needs,
-      simp length-set (ap length (k .copy .ensures) ∙ length-laid _ _ _ _ ∙ h .loop .inv .1),
-      rw (k .copy .ensures) (beside-row (x .d) (x .matrix .now) (x .members .now) (x .shares .now) (h .loop .i) (from .result) (x .a .now) (h .loop .a) (from .ensures) (h .loop .inv .2)),
-    )
+    let h = turn c .before in let x = start h .args in let k = c .before .before .before in let from = k .before .before .row-start in
+    (search needs, simp length-set (ap length (k .copy .ensures) ∙ length-laid _ _ _ _ ∙ h .loop .inv .1), rw (k .copy .ensures) (beside-row (x .d) (x .matrix .now) (x .members .now) (x .shares .now) (h .loop .i) (from .result) (x .a .now) (h .loop .a) (from .ensures) (h .loop .inv .2)))
 
 same-length : tie.Need-same-length Inv-loop μ-loop
 same-length c = search needs
 
 returns : tie.Need-returns Inv-loop μ-loop
 returns c =
-    let l = c .before .loop in
-    let b = start (c .before) in
+    let l = c .before .loop in let b = start (c .before) in
     loaded-whole (length (b .args .members .now)) (b .args .d + 1) _ (l .i) (b .args .a .now) (l .a) (b .pre .0 .2) (omega arith) (l .inv .2)
 
 pub load-beside-spec : {M : Type 1} → statement M
