@@ -2,12 +2,13 @@
 -- taken, untouched: a list written entry by entry at the start of a buffer is what its start holds, and the rest is as it was
 -- prime-of, wide, few, narrow, row-inside, entry-small: what a set and a setup in order give
 -- counted, listed, lie: the walk lists the members, and their rows lie in the matrix
+-- Room, room: the systems of a set in order have room in local buffers
 -- zeros, part-size, fresh: a part of a local buffer of zeros
 use mathlib.Core.Path.{_≡_, refl, sym, ap, _∙_}
 use mathlib.Core.List.{List, [], _∷_}
 use Prim.Native.Nat.{ℕ, zero, suc, _+_, _*_, _≤_, _<_}
+use native.Mathlib.Nat.{mul-le-mul}
 use native.Mathlib.Omega.{arith}
-use lib.Dec.{leb}
 use lib.ListN.{length, take, drop, replicate, length-replicate, getD-replicate}
 use lib.Seq.{ext-getD, getD-take, length-take-le}
 use Rattle.base.specs.Fill.{filled}
@@ -17,7 +18,7 @@ use Rattle.base.proofs.Matrix.{row-fits}
 use Rattle.field.specs.Prime.{Prime}
 use Rattle.field.specs.Dot.{at}
 use Rattle.scheme.specs.Setup.{Setup, dim}
-use Rattle.scheme.specs.Sets.{holds, members, isPrivate}
+use Rattle.scheme.specs.Sets.{holds, members}
 use Rattle.scheme.proofs.Calls.{SetOk, set-ok, limits-prime, below-vec}
 use Rattle.scheme.proofs.Members.{member-at, members-le, members-wide}
 use Rattle.set_systems.specs.Inner.{SetTaken, membersOf, Walked, Lie, Fresh}
@@ -72,6 +73,22 @@ module _ {S : Setup} {s : ℕ} (ok : SetTaken S s) {k : ℕ} {out before : List 
   lie D = record { rows = rw (D, listed) (row-inside ok) }
 
 -- LOCAL BUFFERS
+-- n members, d entries in a row
+pub record Room (n d : ℕ) : Type 0 where
+  pub members : n ≤ 32
+  pub entries : d ≤ 16
+  pub beside : n * (d + 1) ≤ 544
+  pub across : d * (n + 1) ≤ 528
+  pub aside : n * d ≤ 512
+
+pub room : {S : Setup} {s : ℕ} → SetTaken S s → {n d : ℕ} → n ≡ length (members 32 (holds s)) → d ≡ dim S → Room n d
+room {s = s} ok {n} {d} K D =
+    let a : n ≤ 32 = omega (arith, K, members-le 32 (holds s)) in
+    let b : d ≤ 16 = omega (arith, D, narrow ok) in
+    let c : d + 1 ≤ 17 = omega arith in
+    let e : n + 1 ≤ 33 = omega arith in
+    record { members = a; entries = b; beside = mul-le-mul a c; across = mul-le-mul b e; aside = mul-le-mul a b }
+
 -- n zeros
 abbrev pub zeros : ℕ → List ℕ
 zeros n = replicate n 0
