@@ -17,7 +17,7 @@ use Rattle.scheme.specs.Answers.{yes, paperDecided, paperOpened}
 use Rattle.scheme.specs.Calls.{determinesCall, openCall, openLeft}
 use Rattle.scheme.specs.Demand.{Dealing, Honest}
 use Rattle.scheme.proofs.Demand.{demand3}
-use Rattle.set_systems.specs.Contracts.{membersOf}
+use Rattle.set_systems.specs.Inner.{membersOf}
 
 abbrev pub handed : Setup → Dealing → ℕ → ℕ → List ℕ
 handed S D s b = tab (length (membersOf S s)) (λ a. at (D .shares (at (membersOf S s) a)) b)

@@ -2,6 +2,7 @@
 use Prim.Native.Nat.{_%_}
 use mathlib.Core.Path.{sym, ap, _∙_}
 use mathlib.Core.List.{[], _∷_}
+use native.Mathlib.Nat.{zero-add}
 use native.Mathlib.Omega.{arith}
 use borrow.Author.Needs.{needs}
 use Rattle.base.specs.Rules.{given}
@@ -9,7 +10,8 @@ use Rattle.field.proofs.Fields.{field-prime}
 use Rattle.scheme.specs.Opening.{combine}
 use Rattle.base.proofs.Rules.{declined}
 use Rattle.scheme.proofs.Calls.{combine-ok}
-use Rattle.opening.proofs.Products.{dot-whole}
+use Rattle.field.proofs.Dot.{dot-along}
+use lib.ListN.{length}
 use Rattle.opening.proofs.combine_in.Statement.{statement}
 use Rattle.opening.proofs.combine_in.Tie as tie
 
@@ -37,7 +39,7 @@ returns-2 c =
     let x = c .before .before .before .before .before .before .args in
     let o = c .before .before .before .order in
     let z = sym (c .before .before .combine-refusal .ensures) ∙ c .before .if1 .left in
-    rw (← o .ensures, z) (ap (λ v. given (v ∷ [])) (c .dot-product .ensures ∙ ap (λ n. n % o .result) (dot-whole _ (x .constants .now) (x .shares .now))))
+    rw (← o .ensures, z) (ap (λ v. given (v ∷ [])) (c .dot-product .ensures ∙ ap (λ n. n % o .result) (simp zero-add at (dot-along (length (x .constants .now)) (x .constants .now) (x .shares .now) 0 0))))
 
 pub combine-in-spec : {M : Type 1} → statement M
 combine-in-spec = tie.close (tie.spec order-requires combine-refusal-requires returns dot-product-requires returns-2)
