@@ -1,22 +1,17 @@
 // Judging a dealing: the open calls. Each first works out its refusal by the table of scheme's specs/Calls.antt; where there is none it works on
 // inputs that are in order.
 ghost use mathlib.Core.Path.{_≡_};
-ghost use mathlib.Core.Bool.{true, _&&_};
 ghost use mathlib.Core.List.{[]};
 ghost use Prim.Native.Nat.{_+_, _*_, _%_, _<_, _≤_};
-ghost use lib.Dec.{eqb};
 ghost use lib.ListN.{length, take};
 ghost use Rattle.base.specs.Rules.{refusal};
 ghost use Rattle.base.specs.Search.{first};
 ghost use Rattle.base.specs.Matrix.{entry};
-ghost use Rattle.field.specs.Fields.{isField, orderOf};
 ghost use Rattle.field.specs.Dot.{dot};
 ghost use Rattle.scheme.specs.Setup.{setupOf};
 ghost use Rattle.scheme.specs.Answers.{paperValue, paperJudged, paperSettled, paperRehearsal};
 ghost use Rattle.scheme.specs.Dealing.{differs, saidReject, rehearse};
-ghost use Rattle.scheme.specs.Calls.{pairValueRules, pairValueCall, judgeRules, judgeCall, outcomeRules, outcomeCall, outcomeLeft, rehearseRules, rehearseCall, combineRules, combineCall};
-use field::Chosen;
-use field::Field;
+ghost use Rattle.scheme.specs.Calls.{pairValueRules, pairValueCall, judgeRules, judgeCall, outcomeRules, outcomeCall, outcomeLeft, rehearseRules, rehearseCall};
 use scheme::Fate;
 use scheme::Judged;
 use scheme::Judgement;
