@@ -11,7 +11,7 @@ ghost use Rattle.record_layouts.specs.Records.{writeVerdictCall, writeVerdictLe
 ghost use Rattle.record_layouts.specs.Records.{readSetupCall, readMatrixCall, readMatrixLeft, readDealingCall, readDealingLeftG, readDealingLeftH};
 ghost use Rattle.record_layouts.specs.Records.{readPairCall, readVerdictCall, readShareCall};
 ghost use Rattle.holder_file.specs.Calls.{fileContentsCall, fileContentsLeft, holderFileCall, holderFileLeft};
-ghost use Rattle.set_questions.specs.Contracts.{SetBuffer};
+ghost use Rattle.set_questions.specs.Buffer.{SetBuffer};
 ghost use Rattle.c_api.specs.Exported.{setup, place, answeredPlace, refusedPlace};
 use field::Chosen;
 use field::Field;
@@ -238,7 +238,7 @@ pub extern "C" fn mavdrusek_combine(
     ensures answer { λ r. ⌜ r ≡ combineCall p (now (constants .entry)) (now (shares .entry)) .number ⌝ }
     ensures value { λ r. ⌜ now (value .exit) ≡ place 0 (combineCall p (now (constants .entry)) (now (shares .entry))) (now (value .entry)) ⌝ }
 {
-    match judging::combine(p, constants, shares) {
+    match opening::combine(p, constants, shares) {
         Value::Is(x) => {
             *value = x;
             0
@@ -262,7 +262,7 @@ pub extern "C" fn mavdrusek_determines(
     ensures answer { λ r. ⌜ r ≡ determinesCall (setup p l e n (now (matrix .entry))) set .number ⌝ }
     ensures yes { λ r. ⌜ now (yes .exit) ≡ place 0 (determinesCall (setup p l e n (now (matrix .entry))) set) (now (yes .entry)) ⌝ }
 {
-    match opening::determines(Params { p, l, e, n }, matrix, set) {
+    match set_questions::determines(Params { p, l, e, n }, matrix, set) {
         Decided::Yes => {
             *yes = 1;
             0
@@ -289,7 +289,7 @@ pub extern "C" fn mavdrusek_private(
     ensures answer { λ r. ⌜ r ≡ privateCall (setup p l e n (now (matrix .entry))) set .number ⌝ }
     ensures yes { λ r. ⌜ now (yes .exit) ≡ place 0 (privateCall (setup p l e n (now (matrix .entry))) set) (now (yes .entry)) ⌝ }
 {
-    match set_systems::private(Params { p, l, e, n }, matrix, set) {
+    match set_questions::private(Params { p, l, e, n }, matrix, set) {
         Decided::Yes => {
             *yes = 1;
             0

@@ -7,7 +7,7 @@ use lib.ListN.{length}
 use Rattle.base.specs.Matrix.{entry}
 use Rattle.base.proofs.Matrix.{row-fits}
 use Rattle.base.proofs.Fill.{getD-tab}
-use Rattle.field.specs.Dot.{at, dot, along}
+use Rattle.field.specs.Dot.{at, dot}
 use Rattle.field.proofs.Dot.{dot-same}
 use Rattle.scheme.specs.Setup.{Setup, dim}
 use Rattle.scheme.specs.Dealing.{pairValue, expected, part}
@@ -42,7 +42,3 @@ module _ (S : Setup) (d : ℕ) (e : d ≡ dim S) where
     pub is-due-of : (hs : List ℕ) (i j : ℕ) → v ≡ dot d (entry d (S .M) j) (entry d hs i) % S .p → v ≡ expected S (part S hs i) j
     unfolding expected
     is-due-of hs i j q = q ∙ rw e (ap (λ n. n % S .p) (dot-same (dim S) _ _ _ _ (λ k l. refl) (λ k l. part-at S hs i k l)))
-
--- whole lists
-pub dot-whole : (d : ℕ) (u v : List ℕ) → dot d (along u 0 1) (along v 0 1) ≡ dot d (at u) (at v)
-dot-whole d u v = dot-same d _ _ _ _ (λ k l. ap (at u) (omega arith)) (λ k l. ap (at v) (omega arith))

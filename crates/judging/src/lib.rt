@@ -1,22 +1,17 @@
-// Judging and combining: the open calls. Each first works out its refusal by the table of scheme's specs/Calls.antt; where there is none it works on
+// Judging a dealing: the open calls. Each first works out its refusal by the table of scheme's specs/Calls.antt; where there is none it works on
 // inputs that are in order.
 ghost use mathlib.Core.Path.{_≡_};
-ghost use mathlib.Core.Bool.{true, _&&_};
 ghost use mathlib.Core.List.{[]};
 ghost use Prim.Native.Nat.{_+_, _*_, _%_, _<_, _≤_};
-ghost use lib.Dec.{eqb};
 ghost use lib.ListN.{length, take};
 ghost use Rattle.base.specs.Rules.{refusal};
 ghost use Rattle.base.specs.Search.{first};
 ghost use Rattle.base.specs.Matrix.{entry};
-ghost use Rattle.field.specs.Fields.{isField, orderOf};
 ghost use Rattle.field.specs.Dot.{dot};
 ghost use Rattle.scheme.specs.Setup.{setupOf};
 ghost use Rattle.scheme.specs.Answers.{paperValue, paperJudged, paperSettled, paperRehearsal};
 ghost use Rattle.scheme.specs.Dealing.{differs, judgementOf, saidReject, fateOf, rehearse};
-ghost use Rattle.scheme.specs.Calls.{pairValueRules, pairValueCall, judgeRules, judgeCall, outcomeRules, outcomeCall, outcomeLeft, rehearseRules, rehearseCall, combineRules, combineCall};
-use field::Chosen;
-use field::Field;
+ghost use Rattle.scheme.specs.Calls.{pairValueRules, pairValueCall, judgeRules, judgeCall, outcomeRules, outcomeCall, outcomeLeft, rehearseRules, rehearseCall};
 use scheme::Fate;
 use scheme::Judged;
 use scheme::Judgement;
@@ -230,52 +225,4 @@ pub fn rehearse(s: Params, matrix: &[u16], gs: &[u16], hs: &[u16]) -> Rehearsal
         return Rehearsal::Refused(refusal);
     }
     first_pair(s, matrix, gs, hs)
-}
-
-// COMBINE
-fn both_empty(constants: &[u16], shares: &[u16]) -> bool
-    ensures { λ r. ⌜ r ≡ (eqb (length (now (constants .entry))) 0 && eqb (length (now (shares .entry))) 0) ⌝ }
-{
-    if constants.len() == 0 {
-        return shares.len() == 0;
-    }
-    false
-}
-
-// Refusals 3, 4 and 14 of `combine`: in a field 1 does not apply.
-fn combine_refusal(p: u16, constants: &[u16], shares: &[u16]) -> u16
-    requires { ⌜ isField p ≡ true ⌝ }
-    ensures { λ r. ⌜ r ≡ refusal (combineRules p (now (constants .entry)) (now (shares .entry))) ⌝ }
-{
-    let many = 64 < constants.len();
-    let empty = both_empty(constants, shares);
-    let b = scheme::or_size(0, shares.len(), constants.len());
-    let c = base::or_when(b, 3, many);
-    let e = scheme::or_elements(c, p, constants);
-    let f = scheme::or_elements(e, p, shares);
-    base::or_when(f, 14, empty)
-}
-
-// The sum of the products of constants and one holder's shares, in a field.
-fn combine_in(field: Field, constants: &[u16], shares: &[u16]) -> Value
-    requires { ⌜ isField (orderOf field) ≡ true ⌝ }
-    ensures { λ r. ⌜ paperValue r ≡ combineCall (orderOf field) (now (constants .entry)) (now (shares .entry)) ⌝ }
-{
-    let p = field.order();
-    let refusal = combine_refusal(p, constants, shares);
-    if refusal != 0 {
-        return Value::Refused(refusal);
-    }
-    let value = field::dot_product(p, constants.len(), constants, 0, shares, 0, 1);
-    Value::Is(value)
-}
-
-// The sum of the products of constants and one holder's shares.
-pub fn combine(p: u16, constants: &[u16], shares: &[u16]) -> Value
-    ensures { λ r. ⌜ paperValue r ≡ combineCall p (now (constants .entry)) (now (shares .entry)) ⌝ }
-{
-    match Field::new(p) {
-        Chosen::Of(field) => combine_in(field, constants, shares),
-        Chosen::NoField => Value::Refused(1),
-    }
 }

@@ -1,2 +1,1 @@
-pub mod Systems
-pub mod Contracts
+pub mod Inner

@@ -1,141 +1,61 @@
--- From a loaded buffer to the judgement of a set: what a reduced system shows is a reconstruction row or a sweeping vector, or a proof that there is
--- none.
+-- From reduced systems to the answers about a set: what a system shows is a reconstruction row or a sweeping vector, or a proof that there is none.
+-- private-by, zeros-vec: the number of members decides whether the set is private; zeros may stand for shares
+-- row-fits, row-found, row-none: what the system for a reconstruction row shows
+-- shown-below, vector-fits, vector-found, vector-none: what the system for a sweeping vector shows
+-- judge-taken: what an accepted judgement says of its inputs
+-- judged-row, judged-vector, judged-neither, buffer-judged, buffer-declined: the answer of the call, and its buffer
+-- zeros-are, back: a buffer of zeros, and a part that comes back as it was
 use mathlib.Core.Path.{_≡_, refl, sym, ap, _∙_}
 use mathlib.Core.Bool.{Bool, true, false, false≢true}
 use mathlib.Core.List.{List, _++_}
 use Prim.Native.Nat.{ℕ, _+_, _-_, _*_, _%_, _≤_, _<_}
-use native.Mathlib.Nat.{zero-add, mod-mod, mod-lt, mul-le-mul}
+use native.Mathlib.Nat.{mod-mod, mod-lt}
 use native.Mathlib.Omega.{arith}
-use lib.Dec.{ltb}
-use lib.ListN.{length, getD, set, take, drop, replicate, length-replicate, length-drop, getD-replicate, take-append-drop}
-use lib.Seq.{ext-getD, getD-drop}
+use lib.Dec.{leb, ltb}
+use lib.ListN.{length, take, drop, replicate, length-replicate, length-drop, getD-replicate, take-append-drop}
+use lib.Seq.{ext-getD, getD-drop, getD-take}
 use borrow.Author.Tests.{lt-ltb, le-ltb}
 use Rattle.base.specs.Choice.{pick}
 use Rattle.base.specs.Rules.{Answer, refusal}
 use Rattle.base.specs.Search.{Vec}
-use Rattle.base.specs.Fill.{tab, filled, laid}
-use Rattle.base.specs.Matrix.{entry, flat, Below}
+use Rattle.base.specs.Fill.{tab}
+use Rattle.base.specs.Matrix.{entry, Below}
 use Rattle.base.specs.Sum.{unit}
-use Rattle.base.proofs.Choice.{either}
 use Rattle.base.proofs.Fill.{getD-tab, tab-vec, tab-ext, tab-is}
-use Rattle.base.proofs.Sum.{unit-same, unit-other}
-use Rattle.field.proofs.Congruence.{cong-two}
 use Rattle.field.specs.Dot.{at, RowFor}
-use Rattle.elimination.specs.Elimination.{Flat, reduced, shown, turned, sweep, pivotRow, flatShown, flatUnsolved, view, Beside, solvable, refuted, Sweeps}
-use Rattle.elimination.specs.Contracts.{buffers, Fits, Ready, Reduction}
+use Rattle.field.proofs.Congruence.{cong-two}
 use Rattle.field.proofs.Dot.{dot-ext, dot-same, dot-mod-right}
+use Rattle.elimination.specs.Elimination.{Flat, reduced, shown, sweep, pivotRow, flatShown, flatUnsolved, view, Beside, solvable, refuted, Sweeps}
+use Rattle.elimination.specs.Contracts.{buffers, Fits}
 use Rattle.elimination.proofs.Reduced.{beside, solution-mod, refutes-mod, row-is, unseen-is, turned-left, turned-right, sweep-is, shown-small}
 use Rattle.elimination.proofs.Flat.{unsolved-shows, shown-shows}
 use Rattle.scheme.specs.Setup.{Setup, dim}
 use Rattle.scheme.specs.Answers.{isARow, isAVector, isNeither}
-use Rattle.scheme.specs.Sets.{holds, members, isRow, hasRow, isSweep, hasSweep, kind}
+use Rattle.scheme.specs.Sets.{holds, members, isRow, hasRow, isSweep, hasSweep, kind, isPrivate}
 use Rattle.scheme.specs.Calls.{judgeSetRules, JudgeSetLeft, of-row, of-vector, of-neither}
-use Rattle.scheme.proofs.Calls.{SetOk}
+use Rattle.scheme.proofs.Calls.{set-accepts, judgeSet-ok}
 use Rattle.scheme.proofs.Sets.{rows, unit-mod, is-row, is-sweep, row-there, sweep-there}
 use Rattle.scheme.proofs.Certificates.{no-row, no-sweep, kind-row, kind-vector, kind-neither}
-use Rattle.set_systems.specs.Contracts.{membersOf, Walked, Fresh}
-use Rattle.set_systems.proofs.Load.{row-part, row-last, loaded-ready, reduced-loaded}
-use Rattle.set_systems.proofs.Members.{prime-of, wide, few, narrow, entry-small, counted, listed}
-use Rattle.set_questions.specs.Systems.{across, aside, negated}
-use Rattle.set_questions.specs.Contracts.{AcrossReduced, AsideReduced, RowSought, VectorSought, SetBuffer}
+use Rattle.set_systems.specs.Inner.{SetTaken, membersOf, across, aside, AcrossReduced, AsideReduced}
+use Rattle.set_systems.proofs.Members.{prime-of, wide, few, narrow, zeros, part-size}
+use Rattle.set_questions.specs.Buffer.{SetBuffer}
+use Rattle.set_questions.specs.Inner.{negated, RowSought, VectorSought}
 
-unit-small : (p q c : ℕ) → 1 < p → unit q c < p
-unit-small p q c h = either q c (unit q c < p) (λ e. rw (e, unit-same c) h) (λ e. rw (unit-other q c e) (omega arith))
+-- PRIVATE AND DETERMINES
+pub private-by : {S : Setup} {s : ℕ} (ok : SetTaken S s) {r : ℕ} → r ≡ length (members 32 (holds s)) → isPrivate S (holds s) ≡ leb r (S .e)
+unfolding isPrivate
+private-by {S} ok e = ap (λ k. leb k (S .e)) (sym (e ∙ ap length (wide ok)))
 
--- LOADED SYSTEMS
--- one row more of each
-pub across-row : (d : ℕ) (m ms : List ℕ) (q c : ℕ) (x a : List ℕ) → a ≡ filled (flat (length ms + 1) (across d m ms q)) (c * (length ms + 1)) x
-    → set (laid (λ i. entry d m (at ms i) c) (c * (length ms + 1)) (length ms) a) (c * (length ms + 1) + length ms) (unit q c)
-    ≡ filled (flat (length ms + 1) (across d m ms q)) ((c + 1) * (length ms + 1)) x
-unfolding across
-across-row d m ms q c x a e =
-    let k = length ms in
-    let G = across d m ms q in
-    row-last (k + 1) G c k (c * (k + 1) + k) x _ refl
-    (row-part (k + 1) G c 0 (c * (k + 1)) x a (omega arith) e (λ i. entry d m (at ms i) c) k (omega arith)
-    (λ i l. rw (zero-add i, lt-ltb i k l) refl))
-    (unit q c) refl (rw (le-ltb k k (omega arith)) refl)
-
-pub aside-row : (l e : ℕ) (m ms : List ℕ) (i from : ℕ) (x a : List ℕ) → from ≡ at ms i * (l + e)
-    → a ≡ filled (flat (l + e) (aside l e m ms)) (i * (l + e)) x
-    → laid (λ j. getD m (from + j) 0) (i * (l + e) + e) l (laid (λ j. getD m (from + l + j) 0) (i * (l + e)) e a)
-    ≡ filled (flat (l + e) (aside l e m ms)) ((i + 1) * (l + e)) x
-unfolding turned
-aside-row l e m ms i from x a s h =
-    let G = aside l e m ms in
-    row-part (l + e) G i e (i * (l + e) + e) x _ refl
-    (row-part (l + e) G i 0 (i * (l + e)) x a (omega arith) h (λ j. getD m (from + l + j) 0) e (omega arith)
-    (λ j o. rw (zero-add j, lt-ltb j e o) (ap (λ k. getD m k 0) (omega arith))))
-    (λ j. getD m (from + j) 0) l (omega arith)
-    (λ j o. rw (le-ltb (e + j) e (omega arith)) (ap (λ k. getD m k 0) (omega arith)))
-    ∙ ap (λ k. filled (flat (l + e) G) k x) (omega arith)
-
--- REDUCED SYSTEMS
-module _ (S : Setup) (s : ℕ) (ok : SetOk S s) (k d : ℕ) (out : List ℕ) {before : List ℕ} (W : Walked s k before out) (D : d ≡ dim S) where
-  module _ (q : ℕ) (x u : List ℕ) (room : Fresh (dim S) (length (members 32 (holds s)) + 1) x u) where
-    pub across-asks : (d ≤ 16) × (length (take k out) ≤ 32) × (length x ≡ d * (length (take k out) + 1))
-    across-asks = rw (D, listed S s ok k d out W D) (narrow S s ok, few S s ok, rw (wide S s ok) at (room .size))
-
-    module _ (a : List ℕ) (loaded : a ≡ tab (length x) (flat (length (take k out) + 1) (across d (S .M) (take k out) q))) where
-      across-room : Fresh (dim S) (length (membersOf S s) + 1) x u
-      across-room = rw (wide S s ok) at room
-
-      across-loaded : a ≡ tab (length x) (flat (length (membersOf S s) + 1) (across (dim S) (S .M) (membersOf S s) q))
-      across-loaded = rw (D, listed S s ok k d out W D) at loaded
-
-      across-small : (i j : ℕ) → i < dim S → j < length (membersOf S s) + 1 → across (dim S) (S .M) (membersOf S s) q i j < S .p
-      unfolding across
-      across-small i j l m = go (ltb j (length (membersOf S s)))
-        where
-          go : (b : Bool) → pick b (entry (dim S) (S .M) (at (membersOf S s) j) i) (unit q i) < S .p
-          go true = entry-small S s ok (at (membersOf S s) j) i
-          go false = unit-small (S .p) q i (prime-of S s ok .big)
-
-      pub across-ready : Ready (S .p) d (k + 1) a u
-      across-ready =
-          rw (D, counted S s ok k d out W D)
-          (loaded-ready (S .p) (dim S) (length (membersOf S s) + 1) (prime-of S s ok) _ across-small x a u across-room across-loaded (omega (arith, few S s ok)))
-
-      pub across-reduced : (b w : List ℕ) → Reduction (S .p) d (k + 1) k a u b w → AcrossReduced S s q b w
-      across-reduced b w r = record {
-        shows = reduced-loaded (S .p) (dim S) (length (membersOf S s) + 1) (prime-of S s ok) _ across-small x a u across-room across-loaded
-            (length (membersOf S s)) (omega arith) b w (rw (D, counted S s ok k d out W D) at r);
-      }
-
-  module _ (x u : List ℕ) (room : Fresh (length (members 32 (holds s))) (dim S) x u) where
-    pub aside-asks : (dim S ≤ 16) × (length (take k out) ≤ 32) × (length x ≡ length (take k out) * dim S)
-    aside-asks = rw (listed S s ok k d out W D) (narrow S s ok, few S s ok, rw (wide S s ok) at (room .size))
-
-    module _ (a : List ℕ) (loaded : a ≡ tab (length x) (flat (dim S) (aside (S .l) (S .e) (S .M) (take k out)))) where
-      aside-room : Fresh (length (membersOf S s)) (dim S) x u
-      aside-room = rw (wide S s ok) at room
-
-      aside-loaded : a ≡ tab (length x) (flat (dim S) (aside (S .l) (S .e) (S .M) (membersOf S s)))
-      aside-loaded = rw (listed S s ok k d out W D) at loaded
-
-      aside-small : (i j : ℕ) → i < length (membersOf S s) → j < dim S → aside (S .l) (S .e) (S .M) (membersOf S s) i j < S .p
-      unfolding turned
-      aside-small i j l m = go (ltb j (S .e))
-        where
-          go : (b : Bool)
-              → pick b (entry (dim S) (S .M) (at (membersOf S s) i) (S .l + j)) (entry (dim S) (S .M) (at (membersOf S s) i) (j - S .e)) < S .p
-          go true = entry-small S s ok (at (membersOf S s) i) (S .l + j)
-          go false = entry-small S s ok (at (membersOf S s) i) (j - S .e)
-
-      pub aside-ready : Ready (S .p) k (dim S) a u
-      aside-ready =
-          rw (counted S s ok k d out W D)
-          (loaded-ready (S .p) (length (membersOf S s)) (dim S) (prime-of S s ok) _ aside-small x a u aside-room aside-loaded (omega (arith, narrow S s ok)))
-
-      pub aside-reduced : (b w : List ℕ) → Reduction (S .p) k (dim S) (S .e) a u b w → AsideReduced S s b w
-      aside-reduced b w r = record {
-        shows = reduced-loaded (S .p) (length (membersOf S s)) (dim S) (prime-of S s ok) _ aside-small x a u aside-room aside-loaded
-            (S .e) (omega arith) b w (rw (counted S s ok k d out W D) at r);
-      }
+-- shares that are zeros
+pub zeros-vec : (p k n : ℕ) → 0 < p → k ≤ n → Vec p k (take k (zeros n))
+zeros-vec p k n pos l = record {
+  size = sym (part-size k n l);
+  small = λ i m. rw (getD-take k (zeros n) i 0 m, getD-replicate {A = ℕ} n i 0 0 (omega arith)) pos;
+}
 
 -- A RECONSTRUCTION ROW
 -- k members, d equations; A is the system
-module _ (S : Setup) (s : ℕ) (ok : SetOk S s) (q : ℕ) (inside : q < S .l) (a u : List ℕ) (R : AcrossReduced S s q a u) where
+module _ {S : Setup} {s : ℕ} (ok : SetTaken S s) {q : ℕ} (inside : q < S .l) {a u : List ℕ} (R : AcrossReduced S s q a u) where
   A : ℕ → ℕ → ℕ
   A = across (dim S) (S .M) (membersOf S s) q
 
@@ -157,31 +77,31 @@ module _ (S : Setup) (s : ℕ) (ok : SetOk S s) (q : ℕ) (inside : q < S .l) (a
       → Vec (S .p) k (tab k x) × (isRow S (membersOf S s) q (tab k x) ≡ true)
   unfolding k x
   row-is-shown h = (
-    tab-vec (S .p) k x (λ i l. shown-small (S .p) (prime-of S s ok) (dim S) k k A i),
-    is-row S (membersOf S s) q (tab k x) (prime-of S s ok .big) (record {
+    tab-vec (S .p) k x (λ i l. shown-small (S .p) (prime-of ok) (dim S) k k A i),
+    is-row S (membersOf S s) q (tab k x) (prime-of ok .big) (record {
       gives = λ j l. ap (λ z. z % S .p) (dot-same k (at (tab k x)) x (λ i. rows S (holds s) i j) (λ i. rows S (holds s) i j) (λ i m. getD-tab k x 0 i m) (λ i m. refl))
           ∙ h .gives j l;
     }),
   )
 
-  module _ (n d : ℕ) (K : n ≡ length (members 32 (holds s))) (D : d ≡ dim S) where
+  module _ {n d : ℕ} (K : n ≡ length (members 32 (holds s))) (D : d ≡ dim S) where
     row-count : n ≡ length (membersOf S s)
-    row-count = K ∙ ap length (wide S s ok)
+    row-count = K ∙ ap length (wide ok)
 
     pub row-fits : Fits d (n + 1) a u
     row-fits =
-        rw (D, row-count) (record { size = R .shows .size; marks = R .shows .marks; narrow = omega (arith, few S s ok) })
+        rw (D, row-count) (record { size = R .shows .size; marks = R .shows .marks; narrow = omega (arith, few ok) })
 
-    module _ (f : ℕ) (g : f ≡ flatUnsolved d (n + 1) n (buffers a u)) where
+    module _ {f : ℕ} (g : f ≡ flatUnsolved d (n + 1) n (buffers a u)) where
       row-certificate : Beside (S .p) (dim S) k k A f
       unfolding k A
       row-certificate =
           rw ((rw (D, row-count) at g) ∙ unsolved-shows (S .p) (dim S) (k + 1) (buffers a u) _ (R .shows) k (omega arith))
-          (beside (S .p) (prime-of S s ok) (dim S) k k A)
+          (beside (S .p) (prime-of ok) (dim S) k k A)
 
-      pub row-found : d ≤ f → (old left : List ℕ) → length old ≡ n → left ≡ tab (length old) (flatShown d (n + 1) n (buffers a u)) → RowSought S s q old true left
+      pub row-found : d ≤ f → (old : List ℕ) → length old ≡ n → {left : List ℕ} → left ≡ tab (length old) (flatShown d (n + 1) n (buffers a u)) → RowSought S s q old true left
       unfolding k A x
-      row-found l old left size e = record { found = λ t. go row-certificate; none = λ t. absurd (false≢true (sym t)) }
+      row-found l old size {left} e = record { found = λ t. go row-certificate; none = λ t. absurd (false≢true (sym t)) }
         where
           shows : left ≡ tab k x
           shows =
@@ -224,7 +144,7 @@ negative-is p x big l = go (p - 1) (p - x) (omega arith) (omega arith)
     go : (n m : ℕ) → n + 1 ≡ p → m + x ≡ p → m % p ≡ (n * x) % p
     go n m e f = cong-two p x 1 m (n * x) (omega (arith, ap (λ z. x * z) e))
 
-module _ (S : Setup) (s : ℕ) (ok : SetOk S s) (q : ℕ) (inside : q < S .l) (a u : List ℕ) (R : AsideReduced S s a u) where
+module _ {S : Setup} {s : ℕ} (ok : SetTaken S s) {q : ℕ} (inside : q < S .l) {a u : List ℕ} (R : AsideReduced S s a u) where
   G : ℕ → ℕ → ℕ
   G = aside (S .l) (S .e) (S .M) (membersOf S s)
 
@@ -256,45 +176,45 @@ module _ (S : Setup) (s : ℕ) (ok : SetOk S s) (q : ℕ) (inside : q < S .l) (a
     where
       go : (b : Bool) → pick b (unit q j) ((S .p - flatShown m (dim S) (S .e + q) (buffers a u) (j - S .l)) % S .p)
           ≡ pick b (unit q j) ((S .p - 1) * y (j - S .l)) % S .p
-      go true = sym (unit-mod (S .p) q j (prime-of S s ok .big))
+      go true = sym (unit-mod (S .p) q j (prime-of ok .big))
       go false =
           ap (λ z. (S .p - z) % S .p) (shown-shows (S .p) m (dim S) (buffers a u) _ (R .shows) (S .e + q) (omega arith) (j - S .l))
-          ∙ negative-is (S .p) (y (j - S .l)) (prime-of S s ok .big) (shown-small (S .p) (prime-of S s ok) m (S .e) (S .e + q) G (j - S .l))
+          ∙ negative-is (S .p) (y (j - S .l)) (prime-of ok .big) (shown-small (S .p) (prime-of ok) m (S .e) (S .e + q) G (j - S .l))
 
   vector-is : Sweeps (S .p) m (dim S) (S .l) (rows S (holds s)) q (sweep (S .p) (S .l) q y)
       → Vec (S .p) (dim S) (tab (dim S) v) × (isSweep S (membersOf S s) q (tab (dim S) v) ≡ true)
   unfolding m
   vector-is h = (
-    tab-vec (S .p) (dim S) v (λ j l. rw (v-is j) (mod-lt (sweep (S .p) (S .l) q y j) (omega (arith, prime-of S s ok .big)))),
+    tab-vec (S .p) (dim S) v (λ j l. rw (v-is j) (mod-lt (sweep (S .p) (S .l) q y j) (omega (arith, prime-of ok .big)))),
     is-sweep S (membersOf S s) q (tab (dim S) v)
         (λ i l. dot-mod-right (S .p) (dim S) (rows S (holds s) i) (at (tab (dim S) v)) (sweep (S .p) (S .l) q y)
         (λ j n. ap (λ z. z % S .p) (getD-tab (dim S) v 0 j n ∙ v-is j) ∙ mod-mod (sweep (S .p) (S .l) q y j) (S .p)) ∙ h .zeros i l)
         (λ j l. getD-tab (dim S) v 0 j (omega arith) ∙ v-first j l),
   )
 
-  module _ (n d : ℕ) (K : n ≡ length (members 32 (holds s))) (D : d ≡ dim S) where
+  module _ {n d : ℕ} (K : n ≡ length (members 32 (holds s))) (D : d ≡ dim S) where
     vector-count : n ≡ length (membersOf S s)
-    vector-count = K ∙ ap length (wide S s ok)
+    vector-count = K ∙ ap length (wide ok)
 
     pub vector-fits : Fits n d a u
     vector-fits =
-        rw (D, vector-count) (record { size = R .shows .size; marks = R .shows .marks; narrow = omega (arith, narrow S s ok) })
+        rw (D, vector-count) (record { size = R .shows .size; marks = R .shows .marks; narrow = omega (arith, narrow ok) })
 
-    module _ (f : ℕ) (g : f ≡ flatUnsolved n d (S .e + q) (buffers a u)) where
+    module _ {f : ℕ} (g : f ≡ flatUnsolved n d (S .e + q) (buffers a u)) where
       vector-certificate : Beside (S .p) m (S .e) (S .e + q) G f
       unfolding m G
       vector-certificate =
           rw ((rw (D, vector-count) at g) ∙ unsolved-shows (S .p) m (dim S) (buffers a u) _ (R .shows) (S .e + q) (omega arith))
-          (beside (S .p) (prime-of S s ok) m (S .e) (S .e + q) G)
+          (beside (S .p) (prime-of ok) m (S .e) (S .e + q) G)
 
-      pub vector-found : n ≤ f → (old left : List ℕ) → length old ≡ d
+      pub vector-found : n ≤ f → (old : List ℕ) → length old ≡ d → {left : List ℕ}
           → left ≡ tab (length old) (negated (S .p) n (length old) (S .l) (S .e) q (buffers a u)) → VectorSought S s q old true left
       unfolding m G y v
-      vector-found l old left size e = record { found = λ t. go vector-certificate; none = λ t. absurd (false≢true (sym t)) }
+      vector-found l old size {left} e = record { found = λ t. go vector-certificate; none = λ t. absurd (false≢true (sym t)) }
         where
           go : Beside (S .p) m (S .e) (S .e + q) G f → Vec (S .p) (dim S) left × (isSweep S (membersOf S s) q left ≡ true)
           go (solvable z h) =
-              rw (rw (size, D, vector-count) at e) (vector-is (sweep-is (S .p) (prime-of S s ok) m (S .l) (S .e) (rows S (holds s)) q inside y h))
+              rw (rw (size, D, vector-count) at e) (vector-is (sweep-is (S .p) (prime-of ok) m (S .l) (S .e) (rows S (holds s)) q inside y h))
           go (refuted z w h) = absurd (omega (arith, vector-count))
 
       pub vector-none : f < n → (old : List ℕ) → VectorSought S s q old false old
@@ -308,17 +228,13 @@ module _ (S : Setup) (s : ℕ) (ok : SetOk S s) (q : ℕ) (inside : q < S .l) (a
               (λ j o. ap (λ z. z % S .p) (dot-ext m w _ _ (λ i l. sym (in-last i j o))) ∙ h .kills j o)
               (λ t. h .keeps (ap (λ z. z % S .p) (dot-ext m w _ _ (λ i l. in-first i)) ∙ t))
 
--- LOCAL BUFFERS
-pub across-room-fits : (d k : ℕ) → d ≤ 16 → k ≤ 32 → d * (k + 1) ≤ 528
-across-room-fits d k a b = omega (arith, mul-le-mul a (let h : k + 1 ≤ 33 = omega arith in h))
-
-pub aside-room-fits : (k d : ℕ) → k ≤ 32 → d ≤ 16 → k * d ≤ 512
-aside-room-fits k d a b = omega (arith, mul-le-mul a b)
+-- THE JUDGEMENT
+pub judge-taken : (S : Setup) (s q : ℕ) (out : List ℕ) → refusal (judgeSetRules S s q out) ≡ 0 → SetTaken S s × (length out ≡ 32) × (q < S .l)
+judge-taken S s q out z = let h = judgeSet-ok S s q out z in (record { accepted = set-accepts _ _ (h .0) }, h .1, h .2)
 
 pub zeros-are : (n : ℕ) → tab {A = ℕ} n (λ i. 0) ≡ replicate n 0
 zeros-are n = sym (tab-is n (λ i. 0) 0 (replicate n 0) (length-replicate {A = ℕ} n 0) (λ k l. getD-replicate {A = ℕ} n k 0 0 l))
 
--- THE JUDGEMENT
 drop-zeros : (k n : ℕ) → k ≤ n → drop {A = ℕ} k (replicate n 0) ≡ replicate (n - k) 0
 drop-zeros k n l =
     ext-getD 0 (drop k (replicate n 0)) (replicate (n - k) 0) (long ∙ sym (length-replicate {A = ℕ} (n - k) 0))
@@ -331,22 +247,22 @@ drop-zeros k n l =
 behind : (k : ℕ) (out left : List ℕ) → out ≡ replicate 32 0 → k ≤ 32 → length left ≡ k → left ++ drop k out ≡ left ++ replicate (32 - length left) 0
 behind k out left Z l e = ap (λ r. left ++ r) (rw (Z, e) (drop-zeros k 32 l))
 
-module _ (S : Setup) (s : ℕ) (ok : SetOk S s) (q : ℕ) (inside : q < S .l) (out : List ℕ) (Z : out ≡ replicate 32 0) where
-  module _ (k : ℕ) (K : k ≡ length (members 32 (holds s))) (left : List ℕ) where
+module _ {S : Setup} {s : ℕ} (ok : SetTaken S s) {q : ℕ} (inside : q < S .l) {out : List ℕ} (Z : out ≡ replicate 32 0) where
+  module _ {k : ℕ} (K : k ≡ length (members 32 (holds s))) {left : List ℕ} where
     pub judged-row : Vec (S .p) (length (membersOf S s)) left × (isRow S (membersOf S s) q left ≡ true)
         → (isARow ≡ kind S (holds s) q) × JudgeSetLeft S (holds s) q isARow (left ++ drop k out)
     judged-row h =
-        let e = h .0 .size ∙ sym (K ∙ ap length (wide S s ok)) in (
+        let e = h .0 .size ∙ sym (K ∙ ap length (wide ok)) in (
           sym (kind-row S (holds s) q (row-there S (holds s) q .1 (record { entries = left; ok = h .0; is = h .1 }))),
-          rw (behind k out left Z (omega (arith, few S s ok, h .0 .size)) e) (of-row left (h .0) (h .1)),
+          rw (behind k out left Z (omega (arith, few ok, h .0 .size)) e) (of-row left (h .0) (h .1)),
         )
 
-  module _ (d : ℕ) (D : d ≡ dim S) (left : List ℕ) where
+  module _ {d : ℕ} (D : d ≡ dim S) {left : List ℕ} where
     pub judged-vector : Vec (S .p) (dim S) left × (isSweep S (membersOf S s) q left ≡ true)
         → (isAVector ≡ kind S (holds s) q) × JudgeSetLeft S (holds s) q isAVector (left ++ drop d out)
     judged-vector h = (
-      sym (kind-vector S (holds s) q (prime-of S s ok .big) inside (sweep-there S (holds s) q .1 (record { entries = left; ok = h .0; is = h .1 }))),
-      rw (behind d out left Z (omega (arith, narrow S s ok, D)) (h .0 .size ∙ sym D)) (of-vector left (h .0) (h .1)),
+      sym (kind-vector S (holds s) q (prime-of ok .big) inside (sweep-there S (holds s) q .1 (record { entries = left; ok = h .0; is = h .1 }))),
+      rw (behind d out left Z (omega (arith, narrow ok, D)) (h .0 .size ∙ sym D)) (of-vector left (h .0) (h .1)),
     )
 
   pub judged-neither : hasRow S (holds s) q ≡ false → hasSweep S (holds s) q ≡ false

@@ -1,2 +1,2 @@
-pub mod Systems
-pub mod Contracts
+pub mod Buffer
+pub mod Inner

@@ -1,111 +1,70 @@
-// The judgement of a set at a position: the open call. It first works out its refusal by the table of scheme's specs/Calls.antt; where there is none it
-// eliminates one system for a reconstruction row and one for a sweeping vector, in buffers of its own, and reads the answer off.
+// The three questions about a set, open calls: whether it is private, whether it determines the secrets, and what it is at a position. Each first works
+// out its refusal by the table of scheme's specs/Calls.antt; where there is none it eliminates a system of `set_systems` in buffers of its own, and reads
+// the answer off.
 ghost use mathlib.Core.Path.{_≡_};
-ghost use Prim.Native.Nat.{_+_, _*_, _<_, _≤_};
-ghost use lib.ListN.{length, getD, replicate};
+ghost use Prim.Native.Nat.{_+_, _<_};
+ghost use lib.ListN.{length, replicate};
 ghost use Rattle.base.specs.Rules.{refusal};
-ghost use Rattle.base.specs.Sum.{unit};
-ghost use Rattle.base.specs.Fill.{tab, laid};
-ghost use Rattle.base.specs.Matrix.{entry, flat, Below};
+ghost use Rattle.base.specs.Fill.{tab};
+ghost use Rattle.base.specs.Matrix.{Below};
 ghost use Rattle.elimination.specs.Contracts.{buffers, Fits};
 ghost use Rattle.scheme.specs.Setup.{setupOf};
-ghost use Rattle.scheme.specs.Answers.{paperSetJudged};
+ghost use Rattle.scheme.specs.Answers.{paperDecided, paperSetJudged};
 ghost use Rattle.scheme.specs.Sets.{holds, members};
-ghost use Rattle.scheme.specs.Calls.{judgeSetRules, judgeSetCall};
-ghost use Rattle.scheme.proofs.Calls.{SetOk};
-ghost use Rattle.set_systems.specs.Contracts.{Lie, Fresh};
-ghost use Rattle.set_questions.specs.Systems.{across, aside, negated};
-ghost use Rattle.set_questions.specs.Contracts.{AcrossReduced, AsideReduced, RowSought, VectorSought, SetBuffer};
+ghost use Rattle.scheme.specs.Calls.{privateCall, determinesCall, judgeSetRules, judgeSetCall};
+ghost use Rattle.set_systems.specs.Inner.{SetTaken};
+ghost use Rattle.set_questions.specs.Buffer.{SetBuffer};
+ghost use Rattle.set_questions.specs.Inner.{negated, RowSought, VectorSought};
+use scheme::Decided;
 use scheme::Params;
 use scheme::SetJudged;
 
-// SYSTEMS INTO BUFFERS
-// Copies column c of the members' rows into a, from t on.
-fn gather(a: &mut [u16], t: usize, m: &[u16], d: usize, c: usize, members: &[u16])
-    requires { ⌜ (t + length (now members) ≤ length (now a)) × (c < d) × (d ≤ 16) ⌝ }
-    requires { ⌜ Lie d (now m) (now members) ⌝ }
-    ensures { λ _. ⌜ now (a .exit) ≡ laid (λ i. entry d (now (m .entry)) (getD (now (members .entry)) i 0) c) t (length (now (members .entry))) (now (a .entry)) ⌝ }
+// PRIVATE
+// Whether a set is called private: whether it has at most e members.
+pub fn private(s: Params, matrix: &[u16], set: u32) -> Decided
+    ensures { λ r. ⌜ paperDecided r ≡ privateCall (setupOf s (now (matrix .entry))) set ⌝ }
 {
-    let mut i = 0;
-    while i < members.len() {
-        let from = set_systems::row_start(members, i, d);
-        a[t + i] = m[from + c];
-        i += 1;
+    let refusal = set_systems::set_refusal(s, matrix, set);
+    if refusal != 0 {
+        return Decided::Refused(refusal);
+    }
+    if set_systems::size(set) <= (s.e as usize) {
+        Decided::Yes
+    } else {
+        Decided::No
     }
 }
 
-// Entry j of e_q.
-fn unit(q: usize, j: usize) -> u16
-    ensures { λ r. ⌜ r ≡ unit q j ⌝ }
+// DETERMINES
+// Whether a set determines the secrets: whether every position has a reconstruction row.
+pub fn determines(s: Params, matrix: &[u16], set: u32) -> Decided
+    ensures { λ r. ⌜ paperDecided r ≡ determinesCall (setupOf s (now (matrix .entry))) set ⌝ }
 {
-    if q == j { 1 } else { 0 }
-}
-
-// The members' rows written as columns, with e_q beside them.
-fn load_across(matrix: &[u16], d: usize, members: &[u16], q: usize, a: &mut [u16])
-    requires { ⌜ (d ≤ 16) × (length (now members) ≤ 32) × (length (now a) ≡ d * (length (now members) + 1)) ⌝ }
-    requires { ⌜ Lie d (now matrix) (now members) ⌝ }
-    ensures { λ _. ⌜ now (a .exit) ≡ tab (length (now (a .entry))) (flat (length (now (members .entry)) + 1) (across d (now (matrix .entry)) (now (members .entry)) q)) ⌝ }
-{
-    let k = members.len();
-    let mut c = 0;
-    while c < d {
-        let t = c * (k + 1);
-        gather(a, t, matrix, d, c, members);
-        a[t + k] = unit(q, c);
-        c += 1;
+    let refusal = set_systems::set_refusal(s, matrix, set);
+    if refusal != 0 {
+        return Decided::Refused(refusal);
     }
-}
-
-// The members' rows with the last e columns first and the ℓ secret columns beside them.
-fn load_aside(matrix: &[u16], l: usize, e: usize, members: &[u16], a: &mut [u16])
-    requires { ⌜ (l + e ≤ 16) × (length (now members) ≤ 32) × (length (now a) ≡ length (now members) * (l + e)) ⌝ }
-    requires { ⌜ Lie (l + e) (now matrix) (now members) ⌝ }
-    ensures { λ _. ⌜ now (a .exit) ≡ tab (length (now (a .entry))) (flat (l + e) (aside l e (now (matrix .entry)) (now (members .entry)))) ⌝ }
-{
-    let d = l + e;
-    let mut i = 0;
-    while i < members.len() {
-        let from = set_systems::row_start(members, i, d);
-        let t = i * d;
-        base::copy(a, t, matrix, from + l, e);
-        base::copy(a, t + e, matrix, from, l);
-        i += 1;
-    }
-}
-
-// THE ELIMINATIONS
-// Eliminates the d equations for a reconstruction row at position q.
-fn reduce_across(s: Params, matrix: &[u16], set: u32, q: usize, a: &mut [u16], used: &mut [u16])
-    requires { ⌜ SetOk (setupOf s (now matrix)) set ⌝ }
-    requires { ⌜ Fresh (s .l + s .e) (length (members 32 (holds set)) + 1) (now a) (now used) ⌝ }
-    ensures { λ _. ⌜ AcrossReduced (setupOf s (now (matrix .entry))) set q (now (a .exit)) (now (used .exit)) ⌝ }
-{
-    let mut members = [0u16; 32];
-    let k = set_systems::walk(set, &mut members);
-    let d = scheme::dim(s);
-    load_across(matrix, d, &members[..k], q, a);
-    elimination::reduce(a, used, d, k + 1, k, s.p);
-}
-
-// Eliminates the last e columns of the members' rows, with the secret columns beside them.
-fn reduce_aside(s: Params, matrix: &[u16], set: u32, a: &mut [u16], used: &mut [u16])
-    requires { ⌜ SetOk (setupOf s (now matrix)) set ⌝ }
-    requires { ⌜ Fresh (length (members 32 (holds set))) (s .l + s .e) (now a) (now used) ⌝ }
-    ensures { λ _. ⌜ AsideReduced (setupOf s (now (matrix .entry))) set (now (a .exit)) (now (used .exit)) ⌝ }
-{
-    let mut members = [0u16; 32];
-    let k = set_systems::walk(set, &mut members);
+    let mut buffer = [0u16; 544];
+    let mut marks = [0u16; 32];
+    let zeros = [0u16; 32];
     let l = s.l as usize;
-    let e = s.e as usize;
-    load_aside(matrix, l, e, &members[..k], a);
-    elimination::reduce(a, used, k, l + e, e, s.p);
+    let k = set_systems::size(set);
+    let end = k * (scheme::dim(s) + 1);
+    let q = set_systems::reduce_beside(
+        s,
+        matrix,
+        set,
+        &zeros[..k],
+        &mut buffer[..end],
+        &mut marks[..k],
+    );
+    if q < l { Decided::No } else { Decided::Yes }
 }
 
 // A RECONSTRUCTION ROW
 // Writes a reconstruction row for position q into one entry for each member, where there is one.
 fn seek_row(s: Params, matrix: &[u16], set: u32, q: usize, out: &mut [u16]) -> bool
-    requires { ⌜ SetOk (setupOf s (now matrix)) set ⌝ }
+    requires { ⌜ SetTaken (setupOf s (now matrix)) set ⌝ }
     requires { ⌜ (q < s .l) × (length (now out) ≡ length (members 32 (holds set))) ⌝ }
     ensures { λ r. ⌜ RowSought (setupOf s (now (matrix .entry))) set q (now (out .entry)) r (now (out .exit)) ⌝ }
 {
@@ -116,7 +75,7 @@ fn seek_row(s: Params, matrix: &[u16], set: u32, q: usize, out: &mut [u16]) -> b
     let end = d * (k + 1);
     let a = &mut buffer[..end];
     let used = &mut marks[..d];
-    reduce_across(s, matrix, set, q, a, used);
+    set_systems::reduce_across(s, matrix, set, q, a, used);
     if read_off::unsolved(a, used, d, k + 1, k) < d {
         return false;
     }
@@ -142,7 +101,7 @@ fn sweep_entry(
 {
     let l = s.l as usize;
     if j < l {
-        return unit(q, j);
+        return set_systems::unit(q, j);
     }
     let b = (s.e as usize) + q;
     let x = read_off::shown(a, used, rows, width, b, j - l);
@@ -166,7 +125,7 @@ fn write_sweep(s: Params, a: &[u16], used: &[u16], rows: usize, q: usize, out: &
 
 // Writes a sweeping vector for position q into d entries, where there is one.
 fn seek_vector(s: Params, matrix: &[u16], set: u32, q: usize, out: &mut [u16]) -> bool
-    requires { ⌜ SetOk (setupOf s (now matrix)) set ⌝ }
+    requires { ⌜ SetTaken (setupOf s (now matrix)) set ⌝ }
     requires { ⌜ (q < s .l) × (length (now out) ≡ s .l + s .e) ⌝ }
     ensures { λ r. ⌜ VectorSought (setupOf s (now (matrix .entry))) set q (now (out .entry)) r (now (out .exit)) ⌝ }
 {
@@ -177,7 +136,7 @@ fn seek_vector(s: Params, matrix: &[u16], set: u32, q: usize, out: &mut [u16]) -
     let end = k * d;
     let a = &mut buffer[..end];
     let used = &mut marks[..k];
-    reduce_aside(s, matrix, set, a, used);
+    set_systems::reduce_aside(s, matrix, set, a, used);
     let b = (s.e as usize) + q;
     if read_off::unsolved(a, used, k, d, b) < k {
         return false;
@@ -186,7 +145,7 @@ fn seek_vector(s: Params, matrix: &[u16], set: u32, q: usize, out: &mut [u16]) -
     true
 }
 
-// THE CALL
+// JUDGE A SET
 fn judge_set_refusal(s: Params, matrix: &[u16], set: u32, position: u16, out: &[u16]) -> u16
     ensures { λ r. ⌜ r ≡ refusal (judgeSetRules (setupOf s (now (matrix .entry))) set position (now (out .entry))) ⌝ }
 {

@@ -1,7 +1,8 @@
 -- How a system comes into a buffer row by row, and that the buffer then shows it.
 -- row-part, row-last: a part of a row of a matrix that lies flat, and its last entry
 -- loaded-whole: the buffer is filled when every row is written
--- loaded-ready, reduced-loaded: a loaded buffer may be reduced, and reduced it shows the reduced system
+-- Loading: the buffers x and u, once they are filled with the entries g of R rows of W columns, may be reduced by the first C columns, and then what is wanted is so
+-- loading: that is so of a system G of elements, where what is wanted follows from what the reduced buffers show
 use mathlib.Core.Path.{_≡_, sym, ap, _∙_}
 use mathlib.Core.List.{List}
 use Prim.Native.Nat.{ℕ, zero, suc, _+_, _*_, _/_, _%_, _≤_, _<_}
@@ -16,9 +17,9 @@ use Rattle.base.proofs.Matrix.{entry-fits}
 use Rattle.field.specs.Prime.{Prime}
 use Rattle.field.specs.Dot.{at}
 use Rattle.elimination.specs.Elimination.{reduced, Shows}
-use Rattle.elimination.specs.Contracts.{buffers, Ready, Reduction}
+use Rattle.elimination.specs.Contracts.{buffers, Fits, Ready, Reduction}
 use Rattle.elimination.proofs.Flat.{start-shows, reduced-shows}
-use Rattle.set_systems.specs.Contracts.{Fresh}
+use Rattle.set_systems.specs.Inner.{Fresh}
 
 -- a part of a row of a matrix that lies flat, from column c on, and its last entry
 module _ (W : ℕ) (G : ℕ → ℕ → ℕ) (i c t : ℕ) (x a : List ℕ) (place : t ≡ i * W + c) (e : a ≡ filled (flat W G) t x) where
@@ -36,35 +37,44 @@ loaded-whole R W g k x a size done e =
     e ∙ ap (λ n. filled g n x) (ap (λ n. n * W) done ∙ sym size) ∙ filled-whole g 0 x
 
 -- SHOWING
-module _ (p R W : ℕ) (P : Prime p) (G : ℕ → ℕ → ℕ) (small : (i j : ℕ) → i < R → j < W → G i j < p) (x a u : List ℕ) (room : Fresh R W x u)
-    (loaded : a ≡ tab (length x) (flat W G)) where
-  whole : a ≡ tab (R * W) (flat W G)
-  whole = loaded ∙ ap (λ n. tab n (flat W G)) (room .size)
+pub record Loading (p R W C : ℕ) (g : ℕ → ℕ) (x u : List ℕ) (Done : List ℕ → List ℕ → Type 0) : Type 0 where
+  pub ready : {a : List ℕ} → a ≡ tab (length x) g → Ready p R W a u
+  pub fits : {a b v : List ℕ} → a ≡ tab (length x) g → Reduction p R W C a u b v → Fits R W b v
+  pub done : {a b v : List ℕ} → a ≡ tab (length x) g → Reduction p R W C a u b v → Done b v
 
-  loaded-size : length a ≡ R * W
-  loaded-size = ap length whole ∙ length-tab (R * W) (flat W G)
+module _ {p R W : ℕ} (P : Prime p) (G : ℕ → ℕ → ℕ) (small : (i j : ℕ) → i < R → j < W → G i j < p) {x u : List ℕ} (room : Fresh R W x u) where
+  module _ {a : List ℕ} (loaded : a ≡ tab (length x) (flat W G)) where
+    whole : a ≡ tab (R * W) (flat W G)
+    whole = loaded ∙ ap (λ n. tab n (flat W G)) (room .size)
 
-  loaded-below : Below p a
-  loaded-below k = go (decLt k (R * W))
-    where
-      go : Dec (k < R * W) → getD a k 0 < p
-      go (yes l) =
-          rw (whole, getD-tab (R * W) (flat W G) 0 k l) (small (k / W) (k % W) (div-lt-iff-lt-mul (pos-of W l) .1 l) (mod-lt k (pos-of W l)))
-        where
-          pos-of : (w : ℕ) → k < R * w → 0 < w
-          pos-of zero h = absurd (omega arith)
-          pos-of (suc w) h = omega arith
-      go (no n) = rw (List·getD-eq-default a 0 {n = k} (omega (arith, loaded-size))) (omega (arith, P .big))
+    loaded-size : length a ≡ R * W
+    loaded-size = ap length whole ∙ length-tab (R * W) (flat W G)
 
-  loaded-entry : (i j : ℕ) → i < R → j < W → entry W a i j ≡ G i j % p
-  loaded-entry i j l m =
-      rw whole (getD-tab (R * W) (flat W G) 0 (i * W + j) (entry-fits R W i j l m)) ∙ sym (flat-at W G i j m) ∙ sym (mod-eq-of-lt (small i j l m))
+    loaded-below : Below p a
+    loaded-below k = go (decLt k (R * W))
+      where
+        go : Dec (k < R * W) → getD a k 0 < p
+        go (yes l) =
+            rw (whole, getD-tab (R * W) (flat W G) 0 k l) (small (k / W) (k % W) (div-lt-iff-lt-mul (pos-of W l) .1 l) (mod-lt k (pos-of W l)))
+          where
+            pos-of : (w : ℕ) → k < R * w → 0 < w
+            pos-of zero h = absurd (omega arith)
+            pos-of (suc w) h = omega arith
+        go (no n) = rw (List·getD-eq-default a 0 {n = k} (omega (arith, loaded-size))) (omega (arith, P .big))
 
-  pub loaded-ready : W ≤ 64 → Ready p R W a u
-  loaded-ready narrow =
-      record { fits = record { size = loaded-size; marks = room .marks; narrow = narrow }; prime = P; below = loaded-below }
+    loaded-entry : (i j : ℕ) → i < R → j < W → entry W a i j ≡ G i j % p
+    loaded-entry i j l m =
+        rw whole (getD-tab (R * W) (flat W G) 0 (i * W + j) (entry-fits R W i j l m)) ∙ sym (flat-at W G i j m) ∙ sym (mod-eq-of-lt (small i j l m))
 
-  pub reduced-loaded : (C : ℕ) → C ≤ W → (b v : List ℕ) → Reduction p R W C a u b v → Shows p R W (buffers b v) (reduced p R C G)
-  reduced-loaded C l b v r =
-      rw (r .state) (reduced-shows p P R W (buffers a u) G
-      (start-shows p R W (buffers a u) G loaded-size (room .marks) loaded-below loaded-entry (room .unused)) C l)
+    loaded-shows : (C : ℕ) → C ≤ W → {b v : List ℕ} → Reduction p R W C a u b v → Shows p R W (buffers b v) (reduced p R C G)
+    loaded-shows C l r =
+        rw (r .state) (reduced-shows p P R W (buffers a u) G
+        (start-shows p R W (buffers a u) G loaded-size (room .marks) loaded-below loaded-entry (room .unused)) C l)
+
+  pub loading : W ≤ 64 → (C : ℕ) → C ≤ W → (Done : List ℕ → List ℕ → Type 0)
+      → ((b v : List ℕ) → Shows p R W (buffers b v) (reduced p R C G) → Done b v) → Loading p R W C (flat W G) x u Done
+  loading narrow C l Done then = record {
+    ready = λ h. record { fits = record { size = loaded-size h; marks = room .marks; narrow = narrow }; prime = P; below = loaded-below h };
+    fits = λ h r. let s = loaded-shows h C l r in record { size = s .size; marks = s .marks; narrow = narrow };
+    done = λ h r. then _ _ (loaded-shows h C l r);
+  }

@@ -2,13 +2,13 @@
 -- taken, untouched: a list written entry by entry at the start of a buffer is what its start holds, and the rest is as it was
 -- prime-of, wide, few, narrow, row-inside, entry-small: what a set and a setup in order give
 -- counted, listed, lie: the walk lists the members, and their rows lie in the matrix
--- private-by: the number of members decides whether the set is private
+-- Room, room: the systems of a set in order have room in local buffers
 -- zeros, part-size, fresh: a part of a local buffer of zeros
 use mathlib.Core.Path.{_≡_, refl, sym, ap, _∙_}
 use mathlib.Core.List.{List, [], _∷_}
 use Prim.Native.Nat.{ℕ, zero, suc, _+_, _*_, _≤_, _<_}
+use native.Mathlib.Nat.{mul-le-mul}
 use native.Mathlib.Omega.{arith}
-use lib.Dec.{leb}
 use lib.ListN.{length, take, drop, replicate, length-replicate, getD-replicate}
 use lib.Seq.{ext-getD, getD-take, length-take-le}
 use Rattle.base.specs.Fill.{filled}
@@ -18,10 +18,10 @@ use Rattle.base.proofs.Matrix.{row-fits}
 use Rattle.field.specs.Prime.{Prime}
 use Rattle.field.specs.Dot.{at}
 use Rattle.scheme.specs.Setup.{Setup, dim}
-use Rattle.scheme.specs.Sets.{holds, members, isPrivate}
-use Rattle.scheme.proofs.Calls.{SetOk, limits-prime, below-vec}
+use Rattle.scheme.specs.Sets.{holds, members}
+use Rattle.scheme.proofs.Calls.{SetOk, set-ok, limits-prime, below-vec}
 use Rattle.scheme.proofs.Members.{member-at, members-le, members-wide}
-use Rattle.set_systems.specs.Contracts.{membersOf, Walked, Lie, Fresh}
+use Rattle.set_systems.specs.Inner.{SetTaken, membersOf, Walked, Lie, Fresh}
 
 pub taken : (ms x : List ℕ) (k : ℕ) → k ≡ length ms → k ≤ length x → take k (filled (at ms) k x) ≡ ms
 taken ms x k e l =
@@ -39,7 +39,10 @@ untouched f (suc k) [] = refl
 untouched f (suc k) (a ∷ x) = untouched (λ i. f (suc i)) k x
 
 -- a set in order
-module _ (S : Setup) (s : ℕ) (ok : SetOk S s) where
+module _ {S : Setup} {s : ℕ} (taken-in : SetTaken S s) where
+  ok : SetOk S s
+  ok = set-ok S s (taken-in .accepted)
+
   pub prime-of : Prime (S .p)
   prime-of = limits-prime S (ok .setup .limits)
 
@@ -59,21 +62,33 @@ module _ (S : Setup) (s : ℕ) (ok : SetOk S s) where
   entry-small i j = below-vec (S .p) _ (S .M) (omega (arith, prime-of .big)) (ok .setup .matrix) (i * dim S + j)
 
 -- what the walk lists
-module _ (S : Setup) (s : ℕ) (ok : SetOk S s) (k d : ℕ) (out : List ℕ) {before : List ℕ} (W : Walked s k before out) (D : d ≡ dim S) where
+module _ {S : Setup} {s : ℕ} (ok : SetTaken S s) {k : ℕ} {out before : List ℕ} (W : Walked s k before out) where
   pub counted : k ≡ length (membersOf S s)
-  counted = W .count ∙ ap length (wide S s ok)
+  counted = W .count ∙ ap length (wide ok)
 
   pub listed : take k out ≡ membersOf S s
-  listed = W .list ∙ wide S s ok
+  listed = W .list ∙ wide ok
 
-  pub lie : Lie d (S .M) (take k out)
-  lie = record { rows = rw (D, listed) (row-inside S s ok) }
-
-pub private-by : (S : Setup) (s : ℕ) → SetOk S s → (r : ℕ) → r ≡ length (members 32 (holds s)) → isPrivate S (holds s) ≡ leb r (S .e)
-unfolding isPrivate
-private-by S s ok r e = ap (λ k. leb k (S .e)) (sym (e ∙ ap length (wide S s ok)))
+  pub lie : {d : ℕ} → d ≡ dim S → Lie d (S .M) (take k out)
+  lie D = record { rows = rw (D, listed) (row-inside ok) }
 
 -- LOCAL BUFFERS
+-- n members, d entries in a row
+pub record Room (n d : ℕ) : Type 0 where
+  pub members : n ≤ 32
+  pub entries : d ≤ 16
+  pub beside : n * (d + 1) ≤ 544
+  pub across : d * (n + 1) ≤ 528
+  pub aside : n * d ≤ 512
+
+pub room : {S : Setup} {s : ℕ} → SetTaken S s → {n d : ℕ} → n ≡ length (members 32 (holds s)) → d ≡ dim S → Room n d
+room {s = s} ok {n} {d} K D =
+    let a : n ≤ 32 = omega (arith, K, members-le 32 (holds s)) in
+    let b : d ≤ 16 = omega (arith, D, narrow ok) in
+    let c : d + 1 ≤ 17 = omega arith in
+    let e : n + 1 ≤ 33 = omega arith in
+    record { members = a; entries = b; beside = mul-le-mul a c; across = mul-le-mul b e; aside = mul-le-mul a b }
+
 -- n zeros
 abbrev pub zeros : ℕ → List ℕ
 zeros n = replicate n 0

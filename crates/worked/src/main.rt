@@ -254,7 +254,7 @@ fn twice(share: u16) {
     say(b"twice");
     number(share);
     say(b":");
-    value(judging::combine(7, &[2], &[share]));
+    value(opening::combine(7, &[2], &[share]));
 }
 
 // An opening by a set of the example's holders that hands in these shares.
@@ -280,11 +280,11 @@ fn set_of_example(set: u16) {
     say(b"set");
     number(set);
     say(b" determines:");
-    decided(opening::determines(example(), &[6, 2, 5, 3, 4, 4], set as u32));
+    decided(set_questions::determines(example(), &[6, 2, 5, 3, 4, 4], set as u32));
     say(b"set");
     number(set);
     say(b" is private:");
-    decided(set_systems::private(example(), &[6, 2, 5, 3, 4, 4], set as u32));
+    decided(set_questions::private(example(), &[6, 2, 5, 3, 4, 4], set as u32));
     say(b"set");
     number(set);
     say(b" at position 0:");

@@ -1,18 +1,34 @@
 -- Where nothing is refused, the buffers have room for 32 rows of 17 entries, and what is opened from inputs in order is the opening.
-use Prim.Native.Nat.{_+_, _≤_}
-use mathlib.Core.Path.{sym, _∙_}
-use native.Mathlib.Omega.{arith}
+use Prim.Native.Nat.{_+_}
+use mathlib.Core.Path.{_≡_, sym, _∙_}
 use borrow.Author.Needs.{needs}
 use lib.ListN.{length}
-use Rattle.scheme.proofs.Members.{members-le}
-use Rattle.scheme.specs.Sets.{holds}
 use Rattle.base.proofs.Rules.{declined, unchanged}
-use Rattle.scheme.proofs.Calls.{open-ok}
+use Rattle.scheme.proofs.Calls.{OpenOk, open-ok}
 use Rattle.scheme.specs.Setup.{setupOf}
-use Rattle.set_systems.proofs.Members.{narrow, part-size, fresh}
-use Rattle.opening.proofs.Answer.{room-fits}
+use Rattle.set_systems.proofs.Members.{Room, room, part-size, fresh}
+use Rattle.opening.proofs.Answer.{open-taken}
+use Rattle.base.specs.Rules.{refusal}
+use Rattle.scheme.specs.Calls.{openRules}
+use native.Mathlib.Omega.{arith}
 use Rattle.opening.proofs.open.Statement.{statement}
 use Rattle.opening.proofs.open.Tie as tie
+
+-- the places: the start from where nothing is refused, `dim`, right behind that, from where the opening is asked
+abbrev start : tie.Else1 → tie.Start
+start c = c .before .before .before .before .before .before
+
+abbrev at-dim : tie.After-marks → tie.After-dim
+at-dim c = c .before .before .before
+
+none : (c : tie.Else1) → let x = start c .args in refusal (openRules (setupOf (x .s) (x .matrix .now)) (x .set) (x .shares .now) (x .secrets .now)) ≡ 0
+none c = sym (c .before .open-refusal .ensures) ∙ c .if1 .left
+
+ok : (c : tie.Else1) → let x = start c .args in OpenOk (setupOf (x .s) (x .matrix .now)) (x .set) (x .shares .now) (x .secrets .now)
+ok c = open-ok _ _ _ _ (none c)
+
+has-room : (c : tie.After-dim) → Room (length (start (c .before) .args .shares .now)) (c .dim .result)
+has-room c = let o = ok (c .before) in room (open-taken o) (o .shares .size) (c .dim .ensures .0)
 
 open-refusal-requires : tie.Need-open-refusal-requires
 open-refusal-requires c κs = search needs
@@ -30,73 +46,34 @@ add-end : tie.Need-add-end
 add-end c = search needs
 
 mul-end : tie.Need-mul-end
-mul-end c =
-    let x = c .before .before .before .before .before .before .before .args in
-    let z = sym (c .before .before .open-refusal .ensures) ∙ c .before .if1 .left in
-    let ok = open-ok (setupOf (x .s) (x .matrix .now)) (x .set) (x .shares .now) (x .secrets .now) z in
-    let d = c .dim in
-    let k : length (x .shares .now) ≤ 32 = omega (arith, ok .shares .size, members-le 32 (holds (x .set))) in
-    let w : d .result ≤ 16 = omega (arith, narrow _ _ (ok .set), d .ensures .0) in
-    let h = room-fits (length (x .shares .now)) (d .result) k w in
-    omega (arith, h)
+mul-end c = omega (arith, has-room c .beside)
 
 array-borrow-prefix-buffer : tie.Need-array-borrow-prefix-buffer
-array-borrow-prefix-buffer c =
-    let x = c .before .before .before .before .before .before .before .before .args in
-    let z = sym (c .before .before .before .open-refusal .ensures) ∙ c .before .before .if1 .left in
-    let ok = open-ok (setupOf (x .s) (x .matrix .now)) (x .set) (x .shares .now) (x .secrets .now) z in
-    let d = c .before .dim in
-    let k : length (x .shares .now) ≤ 32 = omega (arith, ok .shares .size, members-le 32 (holds (x .set))) in
-    let w : d .result ≤ 16 = omega (arith, narrow _ _ (ok .set), d .ensures .0) in
-    let h = room-fits (length (x .shares .now)) (d .result) k w in
-    h
+array-borrow-prefix-buffer c = has-room (c .before) .beside
 
 slice-aggregate-open-by : tie.Need-slice-aggregate-open-by
-slice-aggregate-open-by c =
-    let x = c .before .before .before .before .before .before .before .before .before .args in
-    let z = sym (c .before .before .before .before .open-refusal .ensures) ∙ c .before .before .before .if1 .left in
-    let ok = open-ok (setupOf (x .s) (x .matrix .now)) (x .set) (x .shares .now) (x .secrets .now) z in
-    let d = c .before .before .dim in
-    let k : length (x .shares .now) ≤ 32 = omega (arith, ok .shares .size, members-le 32 (holds (x .set))) in
-    let w : d .result ≤ 16 = omega (arith, narrow _ _ (ok .set), d .ensures .0) in
-    let h = room-fits (length (x .shares .now)) (d .result) k w in
-    part-size _ 544 h
+slice-aggregate-open-by c = part-size _ 544 (has-room (c .before .before) .beside)
 
 array-borrow-prefix-marks : tie.Need-array-borrow-prefix-marks
-array-borrow-prefix-marks c =
-    let x = c .before .before .before .before .before .before .before .before .before .args in
-    let z = sym (c .before .before .before .before .open-refusal .ensures) ∙ c .before .before .before .if1 .left in
-    let ok = open-ok (setupOf (x .s) (x .matrix .now)) (x .set) (x .shares .now) (x .secrets .now) z in
-    let k : length (x .shares .now) ≤ 32 = omega (arith, ok .shares .size, members-le 32 (holds (x .set))) in
-    k
+array-borrow-prefix-marks c = has-room (c .before .before) .members
 
 slice-aggregate-open-by-2 : tie.Need-slice-aggregate-open-by-2
-slice-aggregate-open-by-2 c =
-    let x = c .before .before .before .before .before .before .before .before .before .before .args in
-    let z = sym (c .before .before .before .before .before .open-refusal .ensures) ∙ c .before .before .before .before .if1 .left in
-    let ok = open-ok (setupOf (x .s) (x .matrix .now)) (x .set) (x .shares .now) (x .secrets .now) z in
-    let k : length (x .shares .now) ≤ 32 = omega (arith, ok .shares .size, members-le 32 (holds (x .set))) in
-    part-size _ 32 k
+slice-aggregate-open-by-2 c = part-size _ 32 (has-room (at-dim c) .members)
 
 open-by-requires : tie.Need-open-by-requires
 open-by-requires c κs =
-    let x = c .before .before .before .before .before .before .before .before .before .before .args in
-    let z = sym (c .before .before .before .before .before .open-refusal .ensures) ∙ c .before .before .before .before .if1 .left in
-    let ok = open-ok (setupOf (x .s) (x .matrix .now)) (x .set) (x .shares .now) (x .secrets .now) z in
-    let d = c .before .before .before .dim in
-    let k : length (x .shares .now) ≤ 32 = omega (arith, ok .shares .size, members-le 32 (holds (x .set))) in
-    let w : d .result ≤ 16 = omega (arith, narrow _ _ (ok .set), d .ensures .0) in
-    let h = room-fits (length (x .shares .now)) (d .result) k w in
-    (ok, rw (← (ok .shares .size), ← (d .ensures .0)) (fresh (length (x .shares .now)) (d .result + 1) 544 32 h k))
+    let d = at-dim c in
+    let h = has-room d in
+    (none (d .before), rw (← (ok (d .before) .shares .size), ← (d .dim .ensures .0)) (fresh (length (start (d .before) .args .shares .now)) (d .dim .result + 1) 544 32 (h .beside) (h .members)))
 
 same-length-2 : tie.Need-same-length-2
 same-length-2 c = search needs
 
 returns-2 : tie.Need-returns-2
 returns-2 c =
-    let z = sym (c .before .before .before .before .before .before .before .before .before .before .open-refusal .ensures) ∙ c .before .before .before .before .before .before .before .before .before .if1 .left in
-    let h = c .before .before .before .before .open-by .ensures in
-    (rw z (h .answers), rw z (h .buffer))
+    let o = c .before .before .before .before in
+    let z = none (at-dim (o .before) .before) in
+    (rw z (o .open-by .ensures .answers), rw z (o .open-by .ensures .buffer))
 
 pub open-spec : {M : Type 1} → statement M
 open-spec =

@@ -3,21 +3,41 @@ use native.Mathlib.Omega.{arith}
 use borrow.Author.Needs.{needs}
 use lib.ListN.{length}
 use Rattle.scheme.specs.Setup.{setupOf}
-use Rattle.opening.proofs.Answer.{eliminated-le, opens-lacking, opens-fits, opens-unsolved, opens-solved}
+use Rattle.opening.proofs.Answer.{open-taken, opens-lacking, opens-unsolved, opens-solved}
+use Rattle.scheme.proofs.Calls.{OpenOk, open-ok}
+use Rattle.elimination.specs.Contracts.{Fits}
+use Prim.Native.Nat.{_+_}
+use Rattle.set_systems.proofs.Systems.{beside-fits, eliminated-le}
 use Rattle.opening.proofs.open_by.Statement.{statement}
 use Rattle.opening.proofs.open_by.Tie as tie
 
+-- the places: the start from the elimination, the elimination from the test of its answer, `dim` from the second test
+abbrev start : tie.After-reduce-beside-arg2 → tie.Start
+start c = c .before .before .before .before .before .before .before
+
+abbrev reduced : tie.After-struct-known → tie.After-reduce-beside
+reduced c = c .before .before .before .before .before
+
+abbrev at-dim : tie.After-unsolved-arg2 → tie.After-dim
+at-dim c = c .before .before
+
+ok : (b : tie.Start) → OpenOk (setupOf (b .args .s) (b .args .matrix .now)) (b .args .set) (b .args .shares .now) (b .args .secrets .now)
+ok b = open-ok _ _ _ _ (b .pre .0)
+
+fits : (c : tie.After-unsolved-arg2) → let d = at-dim c in let r = reduced (d .before .before) in
+    Fits (length (start (r .before) .args .shares .now)) (d .dim .result + 1) (r .reduce-beside .last .1 .1 .1 .1 .0) (r .reduce-beside .last .1 .1 .1 .1 .1 .0)
+fits c =
+    let d = at-dim c in let r = reduced (d .before .before) in let o = ok (start (r .before)) in
+    beside-fits (open-taken o) (o .shares .size) (d .dim .ensures .0) (r .reduce-beside .ensures .system)
+
 reduce-beside-requires : tie.Need-reduce-beside-requires
-reduce-beside-requires c κs = let b = c .before .before .before .before .before .before .before in (b .pre .0 .set, (b .pre .0 .shares, b .pre .1))
+reduce-beside-requires c κs = let o = ok (start c) in (open-taken o, (o .shares, start c .pre .1))
 
 cast-if1 : tie.Need-cast-if1
 cast-if1 c = search needs
 
 cast-position : tie.Need-cast-position
-cast-position c =
-    let ok = c .before .before .before .before .before .before .before .before .before .before .before .before .before .before .pre .0 .set .setup .limits in
-    let e = c .before .before .before .before .before .before .reduce-beside in
-    omega (arith, ok .secret, eliminated-le _ _ _ _ _ _ (e .ensures))
+cast-position c = let r = reduced (c .before) in omega (arith, ok (start (r .before)) .set .setup .limits .secret, eliminated-le (r .reduce-beside .ensures))
 
 same-length : tie.Need-same-length
 same-length c = search needs
@@ -27,12 +47,8 @@ same-length-2 c = search needs
 
 returns : tie.Need-returns
 returns c =
-    let b = c .before .before .before .before .before .before .before .before .before .before .before .before .before .before in
-    let x = b .args in
-    let S = setupOf (x .s) (x .matrix .now) in
-    let ok = b .pre .0 in
-    let e = c .before .before .before .before .before .before .reduce-beside in
-    opens-lacking S (x .set) (ok .set) (x .shares .now) (e .last .1 .1 .1 .1 .0) (e .last .1 .1 .1 .1 .1 .0) (e .result) (e .ensures) (x .secrets .now) (c .if1 .taken)
+    let r = reduced (c .before) in let b = start (r .before) in
+    opens-lacking (open-taken (ok b)) (r .reduce-beside .ensures) (b .args .secrets .now) (c .if1 .taken)
 
 dim-requires : tie.Need-dim-requires
 dim-requires c κs = search needs
@@ -41,13 +57,7 @@ add-unsolved : tie.Need-add-unsolved
 add-unsolved c = search needs
 
 unsolved-requires : tie.Need-unsolved-requires
-unsolved-requires c κs =
-    let b = c .before .before .before .before .before .before .before .before .before .before .before .before .before .before .before .before .before in
-    let x = b .args in
-    let S = setupOf (x .s) (x .matrix .now) in
-    let ok = b .pre .0 in
-    let e = c .before .before .before .before .before .before .before .before .before .reduce-beside in
-    (opens-fits S (x .set) (ok .set) (x .shares .now) (e .last .1 .1 .1 .1 .0) (e .last .1 .1 .1 .1 .1 .0) (e .result) (e .ensures) (length (x .shares .now)) (c .before .before .dim .result) (ok .shares .size) (c .before .before .dim .ensures .0), omega arith)
+unsolved-requires c κs = (fits c, omega arith)
 
 same-length-3 : tie.Need-same-length-3
 same-length-3 c = search needs
@@ -57,24 +67,16 @@ same-length-4 c = search needs
 
 returns-2 : tie.Need-returns-2
 returns-2 c =
-    let b = c .before .before .before .before .before .before .before .before .before .before .before .before .before .before .before .before .before .before .before in
-    let x = b .args in
-    let S = setupOf (x .s) (x .matrix .now) in
-    let ok = b .pre .0 in
-    let e = c .before .before .before .before .before .before .before .before .before .before .before .reduce-beside in
-    opens-unsolved S (x .set) (ok .set) (x .shares .now) (e .last .1 .1 .1 .1 .0) (e .last .1 .1 .1 .1 .1 .0) (e .result) (e .ensures) (length (x .shares .now)) (c .before .before .before .before .dim .result) (ok .shares .size) (c .before .before .before .before .dim .ensures .0) (c .before .before .before .before .before .if1 .left) (c .before .unsolved .result) (c .before .unsolved .ensures) (x .secrets .now) (c .if2 .taken)
+    let d = at-dim (c .before .before) in let r = reduced (d .before .before) in let b = start (r .before) in let o = ok b in
+    opens-unsolved (open-taken o) (r .reduce-beside .ensures) (o .shares .size) (d .dim .ensures .0) (d .before .if1 .left) (c .before .unsolved .ensures) (b .args .secrets .now) (c .if2 .taken)
 
 add-solution : tie.Need-add-solution
 add-solution c = search needs
 
 solution-requires : tie.Need-solution-requires
 solution-requires c κs =
-    let b = c .before .before .before .before .before .before .before .before .before .before .before .before .before .before .before .before .before .before .before .before .before .before in
-    let x = b .args in
-    let S = setupOf (x .s) (x .matrix .now) in
-    let ok = b .pre .0 in
-    let e = c .before .before .before .before .before .before .before .before .before .before .before .before .before .before .reduce-beside in
-    (opens-fits S (x .set) (ok .set) (x .shares .now) (e .last .1 .1 .1 .1 .0) (e .last .1 .1 .1 .1 .1 .0) (e .result) (e .ensures) (length (x .shares .now)) (c .before .before .before .before .before .before .before .dim .result) (ok .shares .size) (c .before .before .before .before .before .before .before .dim .ensures .0), (omega arith, omega (arith, ok .room, ok .set .setup .limits .secret)))
+    let u = c .before .before .before .before .before in let o = ok (start (reduced (at-dim u .before .before) .before)) in
+    (fits u, (omega arith, omega (arith, o .room, o .set .setup .limits .secret)))
 
 same-length-5 : tie.Need-same-length-5
 same-length-5 c = search needs
@@ -87,12 +89,9 @@ same-length-7 c = search needs
 
 returns-3 : tie.Need-returns-3
 returns-3 c =
-    let b = c .before .before .before .before .before .before .before .before .before .before .before .before .before .before .before .before .before .before .before .before .before .before .before .before .before in
-    let x = b .args in
-    let S = setupOf (x .s) (x .matrix .now) in
-    let ok = b .pre .0 in
-    let e = c .before .before .before .before .before .before .before .before .before .before .before .before .before .before .before .before .before .reduce-beside in
-    opens-solved S (x .set) (ok .set) (x .shares .now) (e .last .1 .1 .1 .1 .0) (e .last .1 .1 .1 .1 .1 .0) (e .result) (e .ensures) (length (x .shares .now)) (c .before .before .before .before .before .before .before .before .before .before .dim .result) (ok .shares .size) (c .before .before .before .before .before .before .before .before .before .before .dim .ensures .0) (c .before .before .before .before .before .before .before .before .before .before .before .if1 .left) (c .before .before .before .before .before .before .before .unsolved .result) (c .before .before .before .before .before .before .before .unsolved .ensures) (x .secrets .now) (c .before .before .before .before .before .before .if2 .left) (ok .shares) (ok .room) (c .before .before .solution .last .1 .1 .1 .1 .1 .0) (c .before .before .solution .ensures)
+    let s = c .before .before in let e = s .before .before .before .before in
+    let d = at-dim (e .before .before) in let r = reduced (d .before .before) in let b = start (r .before) in let o = ok b in
+    opens-solved (open-taken o) (r .reduce-beside .ensures) (o .shares .size) (d .dim .ensures .0) (d .before .if1 .left) (e .before .unsolved .ensures) (b .args .secrets .now) (e .if2 .left) (o .shares) (o .room) (s .solution .ensures)
 
 pub open-by-spec : {M : Type 1} → statement M
 open-by-spec =

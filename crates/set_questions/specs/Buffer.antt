@@ -1,0 +1,13 @@
+-- What the buffer of a judged set holds, by the refusal: one of the kind found, or what it held. "Which one of its kind is left open", so that this
+-- buffer alone is stated by its properties.
+use mathlib.Core.Path.{_≡_}
+use mathlib.Core.List.{List}
+use Prim.Native.Nat.{ℕ}
+use Rattle.base.specs.Rules.{Answer, refusal}
+use Rattle.scheme.specs.Setup.{Setup}
+use Rattle.scheme.specs.Sets.{holds}
+use Rattle.scheme.specs.Calls.{judgeSetRules, JudgeSetLeft}
+
+pub record SetBuffer (S : Setup) (s q : ℕ) (out : List ℕ) (answer : Answer) (left : List ℕ) : Type 0 where
+  pub judged : refusal (judgeSetRules S s q out) ≡ 0 → JudgeSetLeft S (holds s) q answer left
+  pub declined : (refusal (judgeSetRules S s q out) ≡ 0 → ⊥) → left ≡ out
