@@ -2,13 +2,13 @@
 -- row, which it reads, is another.
 use mathlib.Core.Path.{_≡_, refl, sym, ap, ap₂, _∙_, subst}
 use mathlib.Core.Logic.{_⊎_, inl, inr, _≢_, ⊎-elim}
-use mathlib.Core.Bool.{Bool, true, false, _&&_}
+use mathlib.Core.Bool.{Bool, true, false}
 use mathlib.Core.List.{List}
 use Prim.Native.Nat.{ℕ, zero, suc, _+_, _-_, _*_, _%_, _≤_, _<_}
 use native.Mathlib.Numerals.{add-one}
 use native.Mathlib.Omega.{arith}
 use native.Mathlib.Nat.{mod-eq-of-lt, sub-zero}
-use lib.Dec.{eqb, leb, ltb}
+use lib.Dec.{eqb, ltb}
 use lib.ListN.{length, getD, set, length-set}
 use lib.Seq.{getD-set-same, getD-set-other}
 use borrow.Author.Tests.{eqb-true, eq-eqb, ne-eqb, lt-ltb, le-ltb, ltb-true}
@@ -23,7 +23,7 @@ use Rattle.field.proofs.Congruence.{cong-by}
 use Rattle.row_steps.specs.Rows.{addEntry, addRow, scaleRow}
 use Rattle.row_steps.proofs.Rows.{below-add, below-scale}
 use Rattle.field.specs.Dot.{at}
-use Rattle.elimination.specs.Elimination.{State, scaled, clear, usable, pivotOf, useRow, column, gauss, start, reduced, pivotRow, shown, unsolved, elsewhere, alone, fixes, clearRow, clearTo, Flat, view, flatPivot, flatUse, flatColumn, flatReduce, flatShown, flatUnsolved, flatFixes, Shows}
+use Rattle.elimination.specs.Elimination.{State, scaled, clear, usable, pivotOf, useRow, column, gauss, start, reduced, clearRow, clearTo, Flat, view, flatPivot, flatUse, flatColumn, flatReduce, Shows}
 
 -- A COLUMN CLEARED
 module _ (p W k c : ℕ) where
@@ -123,41 +123,10 @@ module _ (R : ℕ) (s t : State) (marks : (i : ℕ) → i < R → s .used i ≡ 
   unfolding pivotOf usable
   pivot-agrees c h = first-ext (usable s c) (usable t c) R (λ i m. rw (marks i m, h i m) refl)
 
-  pivot-row-agrees : (q : ℕ) → pivotRow R (s .used) q ≡ pivotRow R (t .used) q
-  unfolding pivotRow
-  pivot-row-agrees q = first-ext _ _ R (λ i m. rw (marks i m) refl)
-
-  shown-agrees : (b : ℕ) → ((i : ℕ) → i < R → s .mat i b ≡ t .mat i b) → (j : ℕ) → shown R b s j ≡ shown R b t j
-  unfolding shown
-  shown-agrees b h j = rw (pivot-row-agrees j) (go (pivotRow R (t .used) j) (ltb (pivotRow R (t .used) j) R) refl)
-    where
-      go : (r : ℕ) (x : Bool) → ltb r R ≡ x → pick x (s .mat r b) 0 ≡ pick x (t .mat r b) 0
-      go r true e = h r (ltb-true r R e)
-      go r false e = refl
-
-  fixes-agrees : (C : ℕ) → ((i j : ℕ) → i < R → j < C → s .mat i j ≡ t .mat i j) → (q : ℕ) → fixes R C s q ≡ fixes R C t q
-  unfolding fixes alone elsewhere
-  fixes-agrees C h q = rw (pivot-row-agrees q) (go (pivotRow R (t .used) q) (ltb (pivotRow R (t .used) q) R) refl)
-    where
-      go : (r : ℕ) (x : Bool) → ltb r R ≡ x → (x && alone C (s .mat r) q) ≡ (x && alone C (t .mat r) q)
-      go r true e = ap (leb C) (first-ext (elsewhere q (s .mat r)) (elsewhere q (t .mat r)) C (λ j m. rw (h r j (ltb-true r R e) m) refl))
-      go r false e = refl
-
 module _ (p R W : ℕ) (s : Flat) (t : State) (S : Shows p R W s t) where
   pub pivot-shows : (c : ℕ) → c < W → flatPivot R W c s ≡ pivotOf R c t
   unfolding flatPivot
   pivot-shows c l = pivot-agrees R (view W s) t (S .rows) c (λ i m. S .entries i c m l)
-
-  pub unsolved-shows : (b : ℕ) → b < W → flatUnsolved R W b s ≡ unsolved R b t
-  unsolved-shows = pivot-shows
-
-  pub shown-shows : (b : ℕ) → b < W → (j : ℕ) → flatShown R W b s j ≡ shown R b t j
-  unfolding flatShown
-  shown-shows b l = shown-agrees R (view W s) t (S .rows) b (λ i m. S .entries i b m l)
-
-  pub fixes-shows : (C : ℕ) → C ≤ W → (q : ℕ) → flatFixes R W C s q ≡ fixes R C t q
-  unfolding flatFixes
-  fixes-shows C l = fixes-agrees R (view W s) t (S .rows) C (λ i j m n. S .entries i j m (omega arith))
 
 -- a buffer with the entries of G and no row used
 pub start-shows : (p R W : ℕ) (s : Flat) (G : ℕ → ℕ → ℕ) → length (s .mat) ≡ R * W → length (s .used) ≡ R → Below p (s .mat)

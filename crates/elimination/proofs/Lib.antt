@@ -1,4 +1,2 @@
 pub mod Elimination
-pub mod Reduced
 pub mod Flat
-mod Examples

@@ -6,7 +6,7 @@ ghost use lib.ListN.{length};
 ghost use Rattle.base.specs.Matrix.{Below};
 ghost use Rattle.field.specs.Prime.{Inverses};
 ghost use Rattle.elimination.specs.Elimination.{flatPivot};
-ghost use Rattle.elimination.specs.Contracts.{buffers, Fits, Ready, RowCleared, ColumnCleared, RowUsed, ColumnPassed, Reduction};
+ghost use Rattle.elimination.specs.Inner.{buffers, Fits, Ready, RowCleared, ColumnCleared, RowUsed, ColumnPassed, Reduction};
 
 // Clears the entry of row r in a column by the pivot row k.
 fn clear_row(a: &mut [u16], width: usize, k: usize, col: usize, r: usize, p: u16)

@@ -13,11 +13,12 @@ use Rattle.base.specs.Search.{Vec}
 use Rattle.base.specs.Fill.{tab}
 use Rattle.base.proofs.Fill.{tab-ext}
 use Rattle.field.proofs.Dot.{dot-ext}
-use Rattle.elimination.specs.Elimination.{reduced, shown, flatShown, flatUnsolved, Beside, solvable, refuted}
-use Rattle.elimination.specs.Contracts.{buffers}
-use Rattle.elimination.proofs.Reduced as system
-use Rattle.elimination.proofs.Reduced.{shown-small}
-use Rattle.elimination.proofs.Flat.{unsolved-shows, shown-shows}
+use Rattle.read_off.specs.ReadOff.{shown, flatShown, flatUnsolved, Beside, solvable, refuted}
+use Rattle.elimination.specs.Elimination.{reduced}
+use Rattle.elimination.specs.Inner.{buffers}
+use Rattle.read_off.proofs.Reduced as system
+use Rattle.read_off.proofs.Reduced.{shown-small}
+use Rattle.read_off.proofs.Shows.{unsolved-shows, shown-shows}
 use Rattle.scheme.specs.Setup.{Setup, dim}
 use Rattle.scheme.specs.Answers.{undetermined, inconsistent}
 use Rattle.scheme.specs.Sets.{holds, members}

@@ -4,8 +4,8 @@ ghost use Prim.Native.Nat.{_+_, _<_, _≤_};
 ghost use lib.ListN.{length, getD};
 ghost use Rattle.base.specs.Fill.{tab};
 ghost use Rattle.field.specs.Dot.{at};
-ghost use Rattle.elimination.specs.Elimination.{pivotRow, alone, flatShown, flatUnsolved, flatFixes};
-ghost use Rattle.elimination.specs.Contracts.{buffers, Fits};
+ghost use Rattle.read_off.specs.ReadOff.{pivotRow, alone, flatShown, flatUnsolved, flatFixes};
+ghost use Rattle.elimination.specs.Inner.{buffers, Fits};
 
 // The first unused row with an entry in column b, or `rows`, where the system with its right side there has a solution.
 pub fn unsolved(a: &[u16], used: &[u16], rows: usize, width: usize, b: usize) -> usize

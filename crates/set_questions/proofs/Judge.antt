@@ -25,10 +25,11 @@ use Rattle.base.proofs.Fill.{getD-tab, tab-vec, tab-ext, tab-is}
 use Rattle.field.specs.Dot.{at, RowFor}
 use Rattle.field.proofs.Congruence.{cong-two}
 use Rattle.field.proofs.Dot.{dot-ext, dot-same, dot-mod-right}
-use Rattle.elimination.specs.Elimination.{Flat, reduced, shown, sweep, pivotRow, flatShown, flatUnsolved, view, Beside, solvable, refuted, Sweeps}
-use Rattle.elimination.specs.Contracts.{buffers, Fits}
-use Rattle.elimination.proofs.Reduced.{beside, solution-mod, refutes-mod, row-is, unseen-is, turned-left, turned-right, sweep-is, shown-small}
-use Rattle.elimination.proofs.Flat.{unsolved-shows, shown-shows}
+use Rattle.read_off.specs.ReadOff.{shown, sweep, pivotRow, flatShown, flatUnsolved, Beside, solvable, refuted, Sweeps}
+use Rattle.elimination.specs.Elimination.{Flat, reduced, view}
+use Rattle.elimination.specs.Inner.{buffers, Fits}
+use Rattle.read_off.proofs.Reduced.{beside, solution-mod, refutes-mod, row-is, unseen-is, turned-left, turned-right, sweep-is, shown-small}
+use Rattle.read_off.proofs.Shows.{unsolved-shows, shown-shows}
 use Rattle.scheme.specs.Setup.{Setup, dim}
 use Rattle.scheme.specs.Answers.{isARow, isAVector, isNeither}
 use Rattle.scheme.specs.Sets.{holds, members, isRow, hasRow, isSweep, hasSweep, kind, isPrivate}

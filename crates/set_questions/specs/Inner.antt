@@ -10,7 +10,8 @@ use lib.ListN.{length}
 use Rattle.base.specs.Choice.{pick}
 use Rattle.base.specs.Search.{Vec}
 use Rattle.base.specs.Sum.{unit}
-use Rattle.elimination.specs.Elimination.{Flat, flatShown}
+use Rattle.read_off.specs.ReadOff.{flatShown}
+use Rattle.elimination.specs.Elimination.{Flat}
 use Rattle.scheme.specs.Setup.{Setup, dim}
 use Rattle.scheme.specs.Sets.{holds, isRow, hasRow, isSweep, hasSweep}
 use Rattle.set_systems.specs.Inner.{membersOf}

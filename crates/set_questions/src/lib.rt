@@ -7,7 +7,7 @@ ghost use lib.ListN.{length, replicate};
 ghost use Rattle.base.specs.Rules.{refusal};
 ghost use Rattle.base.specs.Fill.{tab};
 ghost use Rattle.base.specs.Matrix.{Below};
-ghost use Rattle.elimination.specs.Contracts.{buffers, Fits};
+ghost use Rattle.elimination.specs.Inner.{buffers, Fits};
 ghost use Rattle.scheme.specs.Setup.{setupOf};
 ghost use Rattle.scheme.specs.Answers.{paperDecided, paperSetJudged};
 ghost use Rattle.scheme.specs.Sets.{holds, members};

@@ -16,7 +16,7 @@ use lib.ListN.{length, getD, set, take}
 use borrow.Author.Tests.{lt-ltb, le-ltb, not-false}
 use Rattle.base.specs.Choice.{pick}
 use Rattle.base.specs.Search.{every, first, Vec}
-use Rattle.base.specs.Fill.{tab, filled, laid}
+use Rattle.base.specs.Fill.{filled, laid}
 use Rattle.base.specs.Matrix.{entry, flat}
 use Rattle.base.specs.Sum.{unit}
 use Rattle.base.proofs.Choice.{either}
@@ -24,10 +24,11 @@ use Rattle.base.proofs.Search.{first-le, first-ext, missing-all, found-there, e
 use Rattle.base.proofs.Sum.{unit-same, unit-other}
 use Rattle.field.specs.Dot.{at, dot}
 use Rattle.field.proofs.Dot.{dot-ext, dot-same}
-use Rattle.elimination.specs.Elimination.{reduced, turned, fixes, Shows, Position, fixed, free}
-use Rattle.elimination.specs.Contracts.{buffers, Fits}
-use Rattle.elimination.proofs.Reduced.{determined}
-use Rattle.elimination.proofs.Flat.{fixes-shows}
+use Rattle.read_off.specs.ReadOff.{turned, fixes, Position, fixed, free}
+use Rattle.elimination.specs.Elimination.{reduced, Shows}
+use Rattle.elimination.specs.Inner.{buffers, Fits}
+use Rattle.read_off.proofs.Reduced.{determined}
+use Rattle.read_off.proofs.Shows.{fixes-shows}
 use Rattle.scheme.specs.Setup.{Setup, dim}
 use Rattle.scheme.specs.Sets.{holds, members, hasRow, determines}
 use Rattle.scheme.proofs.Sets.{rows}

@@ -23,8 +23,9 @@ use Rattle.base.specs.Rules.{refusal}
 use Rattle.base.specs.Search.{first}
 use Rattle.base.specs.Sum.{unit}
 use Rattle.field.specs.Dot.{at}
-use Rattle.elimination.specs.Elimination.{Flat, turned, flatFixes, reduced, Shows}
-use Rattle.elimination.specs.Contracts.{buffers}
+use Rattle.read_off.specs.ReadOff.{turned, flatFixes}
+use Rattle.elimination.specs.Elimination.{Flat, reduced, Shows}
+use Rattle.elimination.specs.Inner.{buffers}
 use Rattle.scheme.specs.Setup.{Setup, dim}
 use Rattle.scheme.specs.Sets.{holds, members, hasRow}
 use Rattle.scheme.specs.Calls.{setRules}

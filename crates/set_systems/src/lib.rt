@@ -8,7 +8,7 @@ ghost use Rattle.base.specs.Search.{Vec};
 ghost use Rattle.base.specs.Sum.{unit};
 ghost use Rattle.base.specs.Fill.{tab, laid};
 ghost use Rattle.base.specs.Matrix.{entry, flat};
-ghost use Rattle.elimination.specs.Contracts.{buffers, Fits};
+ghost use Rattle.elimination.specs.Inner.{buffers, Fits};
 ghost use Rattle.scheme.specs.Setup.{setupOf};
 ghost use Rattle.scheme.specs.Sets.{holds, members};
 ghost use Rattle.scheme.specs.Calls.{beyond, setRules};

@@ -1,6 +1,6 @@
 -- By whether the column has a pivot.
 use borrow.Author.Needs.{needs}
-use Rattle.elimination.specs.Contracts.{buffers}
+use Rattle.elimination.specs.Inner.{buffers}
 use Rattle.elimination.proofs.Flat.{column-some, column-none}
 use Rattle.elimination.proofs.pass_column.Statement.{statement}
 use Rattle.elimination.proofs.pass_column.Tie as tie

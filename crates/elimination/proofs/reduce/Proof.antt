@@ -5,7 +5,7 @@ use native.Mathlib.Omega.{arith}
 use borrow.Author.Needs.{needs}
 use lib.ListN.{length}
 use Rattle.elimination.specs.Elimination.{Flat, flatReduce}
-use Rattle.elimination.specs.Contracts.{buffers, Reduction}
+use Rattle.elimination.specs.Inner.{buffers, Reduction}
 use Rattle.elimination.proofs.Flat.{reduce-step, below-reduce}
 use Rattle.elimination.proofs.reduce.Statement.{statement}
 use Rattle.elimination.proofs.reduce.Tie as tie

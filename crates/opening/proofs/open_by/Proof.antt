@@ -5,7 +5,7 @@ use lib.ListN.{length}
 use Rattle.scheme.specs.Setup.{setupOf}
 use Rattle.opening.proofs.Answer.{open-taken, opens-lacking, opens-unsolved, opens-solved}
 use Rattle.scheme.proofs.Calls.{OpenOk, open-ok}
-use Rattle.elimination.specs.Contracts.{Fits}
+use Rattle.elimination.specs.Inner.{Fits}
 use Prim.Native.Nat.{_+_}
 use Rattle.set_systems.proofs.Systems.{beside-fits, eliminated-le}
 use Rattle.opening.proofs.open_by.Statement.{statement}

@@ -4,7 +4,7 @@ use native.Mathlib.Omega.{arith}
 use borrow.Author.Needs.{needs}
 use borrow.Author.Tests.{lt-ltb, le-ltb}
 use Rattle.base.proofs.Matrix.{row-fits}
-use Rattle.elimination.specs.Elimination.{fixes, flatFixes}
+use Rattle.read_off.specs.ReadOff.{fixes, flatFixes}
 use Rattle.read_off.proofs.fixes.Statement.{statement}
 use Rattle.read_off.proofs.fixes.Tie as tie
 

@@ -11,7 +11,7 @@ use lib.Dec.{eqb}
 use Rattle.base.specs.Search.{firstFrom, first}
 use Rattle.base.proofs.Search.{first-stop, first-step, first-end}
 use Rattle.field.specs.Dot.{at}
-use Rattle.elimination.specs.Elimination.{pivotRow}
+use Rattle.read_off.specs.ReadOff.{pivotRow}
 use Rattle.read_off.proofs.pivot_row.Statement.{statement}
 use Rattle.read_off.proofs.pivot_row.Tie as tie
 

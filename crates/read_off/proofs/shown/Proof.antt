@@ -4,7 +4,7 @@ use native.Mathlib.Omega.{arith}
 use borrow.Author.Needs.{needs}
 use borrow.Author.Tests.{lt-ltb, le-ltb}
 use Rattle.base.proofs.Matrix.{entry-fits}
-use Rattle.elimination.specs.Elimination.{shown, flatShown}
+use Rattle.read_off.specs.ReadOff.{shown, flatShown}
 use Rattle.read_off.proofs.shown.Statement.{statement}
 use Rattle.read_off.proofs.shown.Tie as tie
 

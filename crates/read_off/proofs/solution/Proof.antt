@@ -6,8 +6,8 @@ use borrow.Author.Needs.{needs}
 use lib.ListN.{length}
 use Rattle.base.specs.Fill.{filled}
 use Rattle.base.proofs.Fill.{filled-none, filled-store, filled-whole}
-use Rattle.elimination.specs.Elimination.{flatShown}
-use Rattle.elimination.specs.Contracts.{buffers}
+use Rattle.read_off.specs.ReadOff.{flatShown}
+use Rattle.elimination.specs.Inner.{buffers}
 use Rattle.read_off.proofs.solution.Statement.{statement}
 use Rattle.read_off.proofs.solution.Tie as tie
 

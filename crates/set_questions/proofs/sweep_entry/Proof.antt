@@ -4,7 +4,7 @@ use mathlib.Core.Path.{ap, _∙_}
 use native.Mathlib.Omega.{arith}
 use borrow.Author.Tests.{lt-ltb, le-ltb}
 use borrow.Author.Needs.{needs}
-use Rattle.elimination.specs.Contracts.{buffers}
+use Rattle.elimination.specs.Inner.{buffers}
 use Rattle.set_questions.specs.Inner.{negated}
 use Rattle.set_questions.proofs.Judge.{shown-below}
 use Rattle.set_questions.proofs.sweep_entry.Statement.{statement}

@@ -6,7 +6,7 @@ use borrow.Author.Needs.{needs}
 use lib.ListN.{length}
 use Rattle.base.proofs.Fill.{filled-none, filled-store, filled-whole}
 use Rattle.base.specs.Fill.{filled}
-use Rattle.elimination.specs.Contracts.{buffers}
+use Rattle.elimination.specs.Inner.{buffers}
 use Rattle.set_questions.specs.Inner.{negated}
 use Rattle.set_questions.proofs.write_sweep.Statement.{statement}
 use Rattle.set_questions.proofs.write_sweep.Tie as tie

@@ -7,8 +7,8 @@ use native.Mathlib.Omega.{arith}
 use borrow.Author.Needs.{needs}
 use Rattle.base.proofs.Search.{first-stop, first-step, first-end}
 use Rattle.base.specs.Search.{firstFrom, first}
-use Rattle.elimination.specs.Contracts.{buffers}
-use Rattle.elimination.specs.Elimination.{flatFixes}
+use Rattle.elimination.specs.Inner.{buffers}
+use Rattle.read_off.specs.ReadOff.{flatFixes}
 use Rattle.set_systems.proofs.lacking.Statement.{statement}
 use Rattle.set_systems.proofs.lacking.Tie as tie
 

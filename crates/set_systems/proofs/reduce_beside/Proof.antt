@@ -8,7 +8,7 @@ use Rattle.set_systems.proofs.Systems.{beside-asks, beside-loading}
 use Rattle.set_systems.specs.Inner.{beside, lacking, Eliminated}
 use lib.ListN.{take}
 use Prim.Native.Nat.{ℕ, _+_}
-use Rattle.elimination.specs.Contracts.{buffers}
+use Rattle.elimination.specs.Inner.{buffers}
 use Rattle.set_systems.proofs.Load.{Loading}
 use Rattle.base.specs.Matrix.{flat}
 use Rattle.set_systems.proofs.reduce_beside.Statement.{statement}

@@ -1,4 +1,5 @@
--- What the functions of the elimination ask of their lent buffers and leave in them. Records, so that a field more moves no caller.
+-- Contracts of inner functions: what the functions of the elimination ask of their lent buffers and leave in them. Records, so that a field more moves no
+-- caller.
 -- buffers: the two lent buffers, the matrix and the marks of its rows, as one
 -- Fits: the buffers hold R rows of W entries, at most 64, and R marks
 -- Ready: besides, p is a prime and every entry is below it

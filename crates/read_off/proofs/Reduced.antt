@@ -18,9 +18,10 @@ use Rattle.base.proofs.Sum.{sum-one, sum-ext, sum-scale, sum-split, sum-unit, u
 use Rattle.field.specs.Prime.{Prime}
 use Rattle.field.proofs.Congruence.{cong-by, cong-add, cong-mul, cong-comb, sum-mod}
 use Rattle.field.specs.Dot.{dot, RowFor}
-use Rattle.elimination.specs.Elimination.{State, usable, pivotOf, reduced, pivotRow, shown, unsolved, elsewhere, alone, fixes, Solution, Refutes, Spanned, Beside, solvable, refuted, Unseen, Position, fixed, free, Sweeps, turned, sweep}
+use Rattle.read_off.specs.ReadOff.{pivotRow, shown, unsolved, elsewhere, alone, fixes, Refutes, Beside, solvable, refuted, Unseen, Position, fixed, free, Sweeps, turned, sweep}
+use Rattle.elimination.specs.Elimination.{State, usable, pivotOf, reduced, Solution, Spanned}
 use Rattle.field.proofs.Dot.{dot-comm, dot-comb, dot-comb-right, dot-mod, dot-mod-right, dot-unit, dot-none, dot-zero, dot-assoc, row-reads}
 use Rattle.elimination.proofs.Elimination.{Linear, Shape, All, usable-true, usable-false, shape, same, same-solutions, spanned-linear, spanned-rows}
 
 -- CERTIFICATES
 -- they depend on the residues inside the range only

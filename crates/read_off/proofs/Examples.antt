@@ -9,8 +9,9 @@ use Rattle.base.specs.Search.{first, firstFrom}
 use Rattle.base.specs.Sum.{bit}
 use Rattle.field.specs.Prime.{inverseOf}
 use Rattle.row_steps.specs.Rows.{addRow, scaleRow}
-use Rattle.elimination.specs.Elimination.{State, scaled, clear, usable, pivotOf, useRow, column, gauss, start, reduced, pivotRow, shown, unsolved, elsewhere, alone, fixes, clearRow, clearTo, Flat, flatPivot, flatUse, flatColumn, flatReduce, flatShown, flatUnsolved, flatFixes}
-use Rattle.elimination.specs.Contracts.{buffers}
+use Rattle.read_off.specs.ReadOff.{pivotRow, shown, unsolved, elsewhere, alone, fixes, flatShown, flatUnsolved, flatFixes}
+use Rattle.elimination.specs.Elimination.{State, scaled, clear, usable, pivotOf, useRow, column, gauss, start, reduced, clearRow, clearTo, Flat, flatPivot, flatUse, flatColumn, flatReduce}
+use Rattle.elimination.specs.Inner.{buffers}
 
 abbrev rows : List (List ℕ) → ℕ → ℕ → ℕ
 rows m i j = getD (getD m i []) j 0
