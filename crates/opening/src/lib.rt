@@ -23,13 +23,12 @@ use scheme::Value;
 fn open_refusal(s: Params, matrix: &[u16], set: u32, shares: &[u16], secrets: &[u16]) -> u16
     ensures { λ r. ⌜ r ≡ refusal (openRules (setupOf s (now (matrix .entry))) set (now (shares .entry)) (now (secrets .entry))) ⌝ }
 {
-    let a = scheme::limits_refusal(s);
-    let b = scheme::or_size(a, matrix.len(), scheme::matrix_len(s));
-    let c = scheme::or_size(b, shares.len(), set_systems::size(set));
-    let e = scheme::or_size(c, secrets.len(), s.l as usize);
-    let f = scheme::or_elements(e, s.p, matrix);
-    let g = scheme::or_elements(f, s.p, shares);
-    base::or_when(g, 5, set_systems::beyond(s.n, set))
+    let a = scheme::setup_refusal(s, matrix.len());
+    let b = scheme::or_size(a, shares.len(), set_systems::size(set));
+    let c = scheme::or_size(b, secrets.len(), s.l as usize);
+    let e = scheme::or_elements(c, s.p, matrix);
+    let f = scheme::or_elements(e, s.p, shares);
+    base::or_when(f, 5, set_systems::beyond(s.n, set))
 }
 
 // Opens from inputs that are in order, in lent buffers: every share is an equation.

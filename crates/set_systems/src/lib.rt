@@ -62,10 +62,9 @@ pub fn row_start(members: &[u16], i: usize, d: usize) -> usize
 pub fn set_refusal(s: Params, matrix: &[u16], set: u32) -> u16
     ensures { λ r. ⌜ r ≡ refusal (setRules (setupOf s (now (matrix .entry))) set) ⌝ }
 {
-    let a = scheme::limits_refusal(s);
-    let b = scheme::or_size(a, matrix.len(), scheme::matrix_len(s));
-    let c = scheme::or_elements(b, s.p, matrix);
-    base::or_when(c, 5, beyond(s.n, set))
+    let a = scheme::setup_refusal(s, matrix.len());
+    let b = scheme::or_elements(a, s.p, matrix);
+    base::or_when(b, 5, beyond(s.n, set))
 }
 
 // THE ROWS BESIDE THE SHARES, for an opening and for what a set determines

@@ -3,26 +3,20 @@ use borrow.Author.Needs.{needs}
 use Rattle.opening.proofs.open_refusal.Statement.{statement}
 use Rattle.opening.proofs.open_refusal.Tie as tie
 
-limits-refusal-requires : tie.Need-limits-refusal-requires
-limits-refusal-requires c κs = search needs
-
-matrix-len-requires : tie.Need-matrix-len-requires
-matrix-len-requires c κs = search needs
-
-or-size-requires : tie.Need-or-size-requires
-or-size-requires c κs = search needs
+setup-refusal-requires : tie.Need-setup-refusal-requires
+setup-refusal-requires c κs = search needs
 
 size-requires : tie.Need-size-requires
 size-requires c κs = search needs
 
-or-size-requires-2 : tie.Need-or-size-requires-2
-or-size-requires-2 c κs = search needs
+or-size-requires : tie.Need-or-size-requires
+or-size-requires c κs = search needs
 
 cast-or-size : tie.Need-cast-or-size
 cast-or-size c = search needs
 
-or-size-requires-3 : tie.Need-or-size-requires-3
-or-size-requires-3 c κs = search needs
+or-size-requires-2 : tie.Need-or-size-requires-2
+or-size-requires-2 c κs = search needs
 
 or-elements-requires : tie.Need-or-elements-requires
 or-elements-requires c κs = search needs
@@ -43,13 +37,11 @@ pub open-refusal-spec : {M : Type 1} → statement M
 open-refusal-spec =
     tie.close
     (tie.spec
-    limits-refusal-requires
-    matrix-len-requires
-    or-size-requires
+    setup-refusal-requires
     size-requires
-    or-size-requires-2
+    or-size-requires
     cast-or-size
-    or-size-requires-3
+    or-size-requires-2
     or-elements-requires
     or-elements-requires-2
     beyond-requires

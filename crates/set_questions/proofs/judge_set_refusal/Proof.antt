@@ -3,17 +3,11 @@ use borrow.Author.Needs.{needs}
 use Rattle.set_questions.proofs.judge_set_refusal.Statement.{statement}
 use Rattle.set_questions.proofs.judge_set_refusal.Tie as tie
 
-limits-refusal-requires : tie.Need-limits-refusal-requires
-limits-refusal-requires c κs = search needs
-
-matrix-len-requires : tie.Need-matrix-len-requires
-matrix-len-requires c κs = search needs
+setup-refusal-requires : tie.Need-setup-refusal-requires
+setup-refusal-requires c κs = search needs
 
 or-size-requires : tie.Need-or-size-requires
 or-size-requires c κs = search needs
-
-or-size-requires-2 : tie.Need-or-size-requires-2
-or-size-requires-2 c κs = search needs
 
 or-elements-requires : tie.Need-or-elements-requires
 or-elements-requires c κs = search needs
@@ -34,10 +28,8 @@ pub judge-set-refusal-spec : {M : Type 1} → statement M
 judge-set-refusal-spec =
     tie.close
     (tie.spec
-    limits-refusal-requires
-    matrix-len-requires
+    setup-refusal-requires
     or-size-requires
-    or-size-requires-2
     or-elements-requires
     beyond-requires
     or-when-requires
