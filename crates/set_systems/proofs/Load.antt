@@ -15,7 +15,6 @@ use Rattle.base.specs.Matrix.{entry, flat, Below}
 use Rattle.base.proofs.Fill.{getD-tab, length-tab, filled-store, filled-whole, flat-at, laid-filled}
 use Rattle.base.proofs.Matrix.{entry-fits}
 use Rattle.field.specs.Prime.{Prime}
-use Rattle.field.specs.Dot.{at}
 use Rattle.elimination.specs.Elimination.{reduced, Shows}
 use Rattle.elimination.specs.Contracts.{buffers, Fits, Ready, Reduction}
 use Rattle.elimination.proofs.Flat.{start-shows, reduced-shows}

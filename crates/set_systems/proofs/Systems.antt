@@ -16,7 +16,7 @@ use lib.ListN.{length, getD, set, take}
 use borrow.Author.Tests.{lt-ltb, le-ltb, not-false}
 use Rattle.base.specs.Choice.{pick}
 use Rattle.base.specs.Search.{every, first, Vec}
-use Rattle.base.specs.Fill.{tab, filled, laid}
+use Rattle.base.specs.Fill.{filled, laid}
 use Rattle.base.specs.Matrix.{entry, flat}
 use Rattle.base.specs.Sum.{unit}
 use Rattle.base.proofs.Choice.{either}
