@@ -39,9 +39,9 @@ untouched f (suc k) [] = refl
 untouched f (suc k) (a ∷ x) = untouched (λ i. f (suc i)) k x
 
 -- a set in order
-module _ {S : Setup} {s : ℕ} (taken-in : SetTaken S s) where
+module _ {S : Setup} {s : ℕ} (t : SetTaken S s) where
   ok : SetOk S s
-  ok = set-ok S s (taken-in .accepted)
+  ok = set-ok S s (t .accepted)
 
   pub prime-of : Prime (S .p)
   prime-of = limits-prime S (ok .setup .limits)

@@ -5,13 +5,13 @@ use mathlib.Core.List.{[], _∷_}
 use native.Mathlib.Nat.{zero-add}
 use native.Mathlib.Omega.{arith}
 use borrow.Author.Needs.{needs}
-use Rattle.base.specs.Rules.{given}
-use Rattle.field.proofs.Fields.{field-prime}
-use Rattle.scheme.specs.Opening.{combine}
-use Rattle.base.proofs.Rules.{declined}
-use Rattle.scheme.proofs.Calls.{combine-ok}
-use Rattle.field.proofs.Dot.{dot-along}
 use lib.ListN.{length}
+use Rattle.base.specs.Rules.{given}
+use Rattle.base.proofs.Rules.{declined}
+use Rattle.field.proofs.Fields.{field-prime}
+use Rattle.field.proofs.Dot.{dot-along}
+use Rattle.scheme.specs.Opening.{combine}
+use Rattle.scheme.proofs.Calls.{combine-ok}
 use Rattle.opening.proofs.combine_in.Statement.{statement}
 use Rattle.opening.proofs.combine_in.Tie as tie
 

@@ -1,16 +1,16 @@
 -- Where nothing is refused, the buffers have room for 32 rows of 17 entries, and what is opened from inputs in order is the opening.
 use Prim.Native.Nat.{_+_}
 use mathlib.Core.Path.{_≡_, sym, _∙_}
+use native.Mathlib.Omega.{arith}
 use borrow.Author.Needs.{needs}
 use lib.ListN.{length}
+use Rattle.base.specs.Rules.{refusal}
 use Rattle.base.proofs.Rules.{declined, unchanged}
-use Rattle.scheme.proofs.Calls.{OpenOk, open-ok}
 use Rattle.scheme.specs.Setup.{setupOf}
+use Rattle.scheme.specs.Calls.{openRules}
+use Rattle.scheme.proofs.Calls.{OpenOk, open-ok}
 use Rattle.set_systems.proofs.Members.{Room, room, part-size, fresh}
 use Rattle.opening.proofs.Answer.{open-taken}
-use Rattle.base.specs.Rules.{refusal}
-use Rattle.scheme.specs.Calls.{openRules}
-use native.Mathlib.Omega.{arith}
 use Rattle.opening.proofs.open.Statement.{statement}
 use Rattle.opening.proofs.open.Tie as tie
 

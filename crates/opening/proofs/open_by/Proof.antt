@@ -1,13 +1,13 @@
 -- The elimination says which positions have a row; where all have, a row without a pivot that has a right side refutes the shares, and else the right sides are the secrets.
+use Prim.Native.Nat.{_+_}
 use native.Mathlib.Omega.{arith}
 use borrow.Author.Needs.{needs}
 use lib.ListN.{length}
-use Rattle.scheme.specs.Setup.{setupOf}
-use Rattle.opening.proofs.Answer.{open-taken, opens-lacking, opens-unsolved, opens-solved}
-use Rattle.scheme.proofs.Calls.{OpenOk, open-ok}
 use Rattle.elimination.specs.Inner.{Fits}
-use Prim.Native.Nat.{_+_}
+use Rattle.scheme.specs.Setup.{setupOf}
+use Rattle.scheme.proofs.Calls.{OpenOk, open-ok}
 use Rattle.set_systems.proofs.Systems.{beside-fits, eliminated-le}
+use Rattle.opening.proofs.Answer.{open-taken, opens-lacking, opens-unsolved, opens-solved}
 use Rattle.opening.proofs.open_by.Statement.{statement}
 use Rattle.opening.proofs.open_by.Tie as tie
 

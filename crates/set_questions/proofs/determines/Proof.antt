@@ -5,8 +5,8 @@ use native.Mathlib.Omega.{arith}
 use borrow.Author.Needs.{needs}
 use Rattle.base.proofs.Rules.{declined}
 use Rattle.scheme.specs.Setup.{setupOf}
-use Rattle.set_systems.proofs.Members.{prime-of, Room, room, part-size, fresh}
 use Rattle.set_systems.specs.Inner.{SetTaken}
+use Rattle.set_systems.proofs.Members.{prime-of, Room, room, part-size, fresh}
 use Rattle.set_systems.proofs.Systems.{determines-by, determines-not}
 use Rattle.set_questions.proofs.Judge.{zeros-vec}
 use Rattle.set_questions.proofs.determines.Statement.{statement}

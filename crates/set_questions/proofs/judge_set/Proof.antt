@@ -6,13 +6,13 @@ use native.Mathlib.Omega.{arith}
 use borrow.Author.Needs.{needs}
 use lib.Seq.{length-take-le}
 use lib.ListN.{length, drop, replicate}
+use Rattle.base.specs.Rules.{refusal}
 use Rattle.base.proofs.Rules.{declined}
 use Rattle.scheme.specs.Setup.{Setup, setupOf}
-use Rattle.set_systems.proofs.Members.{narrow}
-use Rattle.set_questions.proofs.Judge.{judge-taken, judged-row, judged-vector, judged-neither, back, buffer-judged, buffer-declined}
-use Rattle.base.specs.Rules.{refusal}
 use Rattle.scheme.specs.Calls.{judgeSetRules}
 use Rattle.set_systems.specs.Inner.{SetTaken}
+use Rattle.set_systems.proofs.Members.{narrow}
+use Rattle.set_questions.proofs.Judge.{judge-taken, judged-row, judged-vector, judged-neither, back, buffer-judged, buffer-declined}
 use Rattle.set_questions.proofs.judge_set.Statement.{statement}
 use Rattle.set_questions.proofs.judge_set.Tie as tie
 

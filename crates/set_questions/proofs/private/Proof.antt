@@ -4,8 +4,8 @@ use borrow.Author.Tests.{le-leb, lt-leb}
 use borrow.Author.Needs.{needs}
 use Rattle.base.proofs.Rules.{declined}
 use Rattle.scheme.specs.Setup.{setupOf}
-use Rattle.set_questions.proofs.Judge.{private-by}
 use Rattle.set_systems.specs.Inner.{SetTaken}
+use Rattle.set_questions.proofs.Judge.{private-by}
 use Rattle.set_questions.proofs.private.Statement.{statement}
 use Rattle.set_questions.proofs.private.Tie as tie
 

@@ -4,9 +4,9 @@ use mathlib.Core.Path.{refl}
 use native.Mathlib.Omega.{arith}
 use borrow.Author.Needs.{needs}
 use lib.ListN.{length}
+use Rattle.elimination.specs.Inner.{Fits}
 use Rattle.set_systems.proofs.Members.{Room, room, part-size, fresh}
 use Rattle.set_questions.proofs.Judge.{row-fits, row-found, row-none}
-use Rattle.elimination.specs.Inner.{Fits}
 use Rattle.set_questions.proofs.seek_row.Statement.{statement}
 use Rattle.set_questions.proofs.seek_row.Tie as tie
 

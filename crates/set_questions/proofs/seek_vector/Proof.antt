@@ -3,9 +3,9 @@ use mathlib.Core.Path.{refl}
 use native.Mathlib.Omega.{arith}
 use borrow.Author.Needs.{needs}
 use lib.ListN.{length}
+use Rattle.elimination.specs.Inner.{Fits}
 use Rattle.set_systems.proofs.Members.{narrow, Room, room, part-size, fresh}
 use Rattle.set_questions.proofs.Judge.{vector-fits, vector-found, vector-none}
-use Rattle.elimination.specs.Inner.{Fits}
 use Rattle.set_questions.proofs.seek_vector.Statement.{statement}
 use Rattle.set_questions.proofs.seek_vector.Tie as tie
 

@@ -5,8 +5,8 @@ use mathlib.Core.Path.{_≡_, refl, sym, ap, _∙_}
 use native.Mathlib.Nat.{sub-zero}
 use native.Mathlib.Omega.{arith}
 use borrow.Author.Needs.{needs}
-use Rattle.base.proofs.Search.{first-stop, first-step, first-end}
 use Rattle.base.specs.Search.{firstFrom, first}
+use Rattle.base.proofs.Search.{first-stop, first-step, first-end}
 use Rattle.elimination.specs.Inner.{buffers}
 use Rattle.read_off.specs.ReadOff.{flatFixes}
 use Rattle.set_systems.proofs.lacking.Statement.{statement}

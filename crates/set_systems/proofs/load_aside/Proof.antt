@@ -5,12 +5,12 @@ use native.Mathlib.Nat.{zero-mul}
 use native.Mathlib.Omega.{arith}
 use borrow.Author.Needs.{needs}
 use lib.ListN.{length, getD}
-use Rattle.base.proofs.Matrix.{row-fits}
-use Rattle.base.proofs.Fill.{filled-none, length-laid}
 use Rattle.base.specs.Matrix.{flat}
 use Rattle.base.specs.Fill.{filled, laid}
-use Rattle.set_systems.proofs.Load.{loaded-whole}
+use Rattle.base.proofs.Matrix.{row-fits}
+use Rattle.base.proofs.Fill.{filled-none, length-laid}
 use Rattle.set_systems.specs.Inner.{aside}
+use Rattle.set_systems.proofs.Load.{loaded-whole}
 use Rattle.set_systems.proofs.Systems.{aside-row}
 use Rattle.set_systems.proofs.load_aside.Statement.{statement}
 use Rattle.set_systems.proofs.load_aside.Tie as tie

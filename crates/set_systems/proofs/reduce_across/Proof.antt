@@ -3,24 +3,19 @@ use mathlib.Core.Path.{sym}
 use native.Mathlib.Omega.{arith}
 use borrow.Author.Needs.{needs}
 use lib.Seq.{length-take-le}
-use Rattle.scheme.specs.Setup.{setupOf}
 use Rattle.set_systems.proofs.Systems.{across-asks, across-loading}
-use Prim.Native.Nat.{_+_}
-use lib.ListN.{length, take}
-use Rattle.set_systems.proofs.Load.{Loading}
-use Rattle.set_systems.specs.Inner.{across, AcrossReduced}
-use Rattle.base.specs.Matrix.{flat}
 use Rattle.set_systems.proofs.reduce_across.Statement.{statement}
 use Rattle.set_systems.proofs.reduce_across.Tie as tie
 
-abbrev start : tie.After-load-across-arg → tie.Start
-start c = c .before .before .before .before .before .before .before .before .before
+-- the places: `walk` and the start from where the load is asked, the load from where the reduction is asked
+abbrev at-walk : tie.After-load-across-arg → tie.After-walk
+at-walk c = c .before .before .before .before
 
--- what is known where the load is asked; the load is four places before the reduction
-system : (c : tie.After-load-across-arg) → let x = start c .args in let w = c .before .before .before .before .walk in let d = c .before .before .dim .result in let ms = take (w .result) (w .last .1 .0) in
-    Loading (x .s .p) d (w .result + 1) (w .result) (flat (length ms + 1) (across d (x .matrix .now) ms (x .q))) (x .a .now) (x .used .now)
-    (AcrossReduced (setupOf (x .s) (x .matrix .now)) (x .set) (x .q))
-system c = let b = start c in across-loading (b .pre .0) (c .before .before .before .before .walk .ensures) (c .before .before .dim .ensures .0) (b .args .q) (b .pre .1)
+abbrev start : tie.After-load-across-arg → tie.Start
+start c = at-walk c .before .before .before .before .before
+
+abbrev at-load : tie.After-reduce-arg2 → tie.After-load-across
+at-load c = c .before .before .before .before
 
 slice-aggregate-walk : tie.Need-slice-aggregate-walk
 slice-aggregate-walk c = search needs
@@ -38,13 +33,13 @@ slice-aggregate-load-across : tie.Need-slice-aggregate-load-across
 slice-aggregate-load-across c = let w = c .before .before .before .walk in sym (length-take-le (w .result) (w .last .1 .0) (w .ensures .fits))
 
 load-across-requires : tie.Need-load-across-requires
-load-across-requires c κs = let b = start c in across-asks (b .pre .0) (c .before .before .before .before .walk .ensures) (c .before .before .dim .ensures .0) (b .args .q) (b .pre .1)
+load-across-requires c κs = let b = start c in across-asks (b .pre .0) (at-walk c .walk .ensures) (c .before .before .dim .ensures .0) (b .args .q) (b .pre .1)
 
 add-reduce : tie.Need-add-reduce
 add-reduce c = search needs
 
 reduce-requires : tie.Need-reduce-requires
-reduce-requires c κs = let l = c .before .before .before .before in (system (l .before) .ready (l .load-across .ensures), omega arith)
+reduce-requires c κs = let l = at-load c in let i = l .before in let b = start i in (across-loading (b .pre .0) (at-walk i .walk .ensures) (i .before .before .dim .ensures .0) (b .args .q) (b .pre .1) .ready (l .load-across .ensures), omega arith)
 
 same-length : tie.Need-same-length
 same-length c = search needs
@@ -53,7 +48,9 @@ same-length-2 : tie.Need-same-length-2
 same-length-2 c = search needs
 
 returns : tie.Need-returns
-returns c = let r = c .before .before .before .before in let l = r .before .before .before .before .before in system (l .before) .done (l .load-across .ensures) (r .reduce .ensures)
+returns c =
+    let r = c .before .before .before .before in let l = at-load (r .before) in let i = l .before in let b = start i in
+    across-loading (b .pre .0) (at-walk i .walk .ensures) (i .before .before .dim .ensures .0) (b .args .q) (b .pre .1) .done (l .load-across .ensures) (r .reduce .ensures)
 
 pub reduce-across-spec : {M : Type 1} → statement M
 reduce-across-spec =

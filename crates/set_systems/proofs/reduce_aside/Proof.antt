@@ -3,24 +3,19 @@ use mathlib.Core.Path.{sym}
 use native.Mathlib.Omega.{arith}
 use borrow.Author.Needs.{needs}
 use lib.Seq.{length-take-le}
-use Rattle.scheme.specs.Setup.{setupOf}
 use Rattle.set_systems.proofs.Systems.{aside-asks, aside-loading}
-use Prim.Native.Nat.{_+_}
-use lib.ListN.{take}
-use Rattle.set_systems.proofs.Load.{Loading}
-use Rattle.set_systems.specs.Inner.{aside, AsideReduced}
-use Rattle.base.specs.Matrix.{flat}
 use Rattle.set_systems.proofs.reduce_aside.Statement.{statement}
 use Rattle.set_systems.proofs.reduce_aside.Tie as tie
 
-abbrev start : tie.After-load-aside-arg → tie.Start
-start c = c .before .before .before .before .before .before .before .before .before .before
+-- the places: `walk` and the start from where the load is asked, the load from where the reduction is asked
+abbrev at-walk : tie.After-load-aside-arg → tie.After-walk
+at-walk c = c .before .before .before .before .before
 
--- what is known where the load is asked; the load is four places before the reduction
-system : (c : tie.After-load-aside-arg) → let x = start c .args in let w = c .before .before .before .before .before .walk in
-    Loading (x .s .p) (w .result) (x .s .l + x .s .e) (x .s .e) (flat (x .s .l + x .s .e) (aside (x .s .l) (x .s .e) (x .matrix .now) (take (w .result) (w .last .1 .0)))) (x .a .now) (x .used .now)
-    (AsideReduced (setupOf (x .s) (x .matrix .now)) (x .set))
-system c = let b = start c in aside-loading (b .pre .0) (c .before .before .before .before .before .walk .ensures) (b .pre .1)
+abbrev start : tie.After-load-aside-arg → tie.Start
+start c = at-walk c .before .before .before .before .before
+
+abbrev at-load : tie.After-reduce-arg2 → tie.After-load-aside
+at-load c = c .before .before .before .before
 
 slice-aggregate-walk : tie.Need-slice-aggregate-walk
 slice-aggregate-walk c = search needs
@@ -41,13 +36,13 @@ slice-aggregate-load-aside : tie.Need-slice-aggregate-load-aside
 slice-aggregate-load-aside c = let w = c .before .before .before .before .walk in sym (length-take-le (w .result) (w .last .1 .0) (w .ensures .fits))
 
 load-aside-requires : tie.Need-load-aside-requires
-load-aside-requires c κs = let b = start c in aside-asks (b .pre .0) (c .before .before .before .before .before .walk .ensures) (b .pre .1)
+load-aside-requires c κs = let b = start c in aside-asks (b .pre .0) (at-walk c .walk .ensures) (b .pre .1)
 
 add-reduce : tie.Need-add-reduce
 add-reduce c = search needs
 
 reduce-requires : tie.Need-reduce-requires
-reduce-requires c κs = let l = c .before .before .before .before in (system (l .before) .ready (l .load-aside .ensures), omega arith)
+reduce-requires c κs = let l = at-load c in let i = l .before in let b = start i in (aside-loading (b .pre .0) (at-walk i .walk .ensures) (b .pre .1) .ready (l .load-aside .ensures), omega arith)
 
 same-length : tie.Need-same-length
 same-length c = search needs
@@ -56,7 +51,9 @@ same-length-2 : tie.Need-same-length-2
 same-length-2 c = search needs
 
 returns : tie.Need-returns
-returns c = let r = c .before .before .before .before in let l = r .before .before .before .before .before in system (l .before) .done (l .load-aside .ensures) (r .reduce .ensures)
+returns c =
+    let r = c .before .before .before .before in let l = at-load (r .before) in let i = l .before in let b = start i in
+    aside-loading (b .pre .0) (at-walk i .walk .ensures) (b .pre .1) .done (l .load-aside .ensures) (r .reduce .ensures)
 
 pub reduce-aside-spec : {M : Type 1} → statement M
 reduce-aside-spec =

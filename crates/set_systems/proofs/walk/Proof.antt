@@ -4,11 +4,11 @@ use native.Mathlib.Omega.{arith}
 use borrow.Author.Needs.{needs}
 use lib.Count.{trailing-le}
 use lib.ListN.{length, set}
-use Rattle.base.proofs.Fill.{filled-none, filled-store}
 use Rattle.base.specs.Fill.{filled}
+use Rattle.base.proofs.Fill.{filled-none, filled-store}
 use Rattle.field.specs.Dot.{at}
-use Rattle.scheme.proofs.Members.{Left, left-start, left-turn, left-member, left-place, left-end, next-less, members-le}
 use Rattle.scheme.specs.Sets.{holds, members}
+use Rattle.scheme.proofs.Members.{Left, left-start, left-turn, left-member, left-place, left-end, next-less, members-le}
 use Rattle.set_systems.proofs.Members.{taken, untouched}
 use Rattle.set_systems.proofs.walk.Statement.{statement}
 use Rattle.set_systems.proofs.walk.Tie as tie
