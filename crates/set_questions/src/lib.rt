@@ -1,6 +1,6 @@
 // The three questions about a set, open calls: whether it is private, whether it determines the secrets, and what it is at a position. Each first works
-// out its refusal by the table of scheme's specs/Calls.antt; where there is none it eliminates a system of `set_systems` in buffers of its own, and reads
-// the answer off.
+// out its refusal by the table of scheme's specs/Calls.antt. Where there is none `private` counts the members; the other two eliminate systems of
+// `set_systems`, in buffers of their own, and read the answer off.
 ghost use mathlib.Core.Path.{_≡_};
 ghost use Prim.Native.Nat.{_+_, _<_};
 ghost use lib.ListN.{length, replicate};

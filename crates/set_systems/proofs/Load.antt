@@ -1,8 +1,8 @@
 -- How a system comes into a buffer row by row, and that the buffer then shows it.
 -- row-part, row-last: a part of a row of a matrix that lies flat, and its last entry
 -- loaded-whole: the buffer is filled when every row is written
--- Loading: the buffers x and u, once they are filled with the entries g of R rows of W columns, may be reduced by the first C columns, and then what is wanted is so
--- loading: that is so of a system G of elements, where what is wanted follows from what the reduced buffers show
+-- Loading: filled with the entries g of R rows of W columns, the buffers x and u may be reduced by the first C columns; what is wanted is then done
+-- loading: that holds of a system G of elements, where what is wanted follows from what the reduced buffers show
 use mathlib.Core.Path.{_≡_, sym, ap, _∙_}
 use mathlib.Core.List.{List}
 use Prim.Native.Nat.{ℕ, zero, suc, _+_, _*_, _/_, _%_, _≤_, _<_}
