@@ -14,7 +14,7 @@ use Rattle.scheme.specs.Setup.{Setup, dim, Limits, IsSetup}
 use Rattle.scheme.specs.Calls.{limits, size, beyondField}
 use Rattle.scheme.proofs.Calls.{limits-are, limits-pos, size-is, size-clear, vec-of, in-order}
 use Rattle.record_layouts.proofs.Words.{length-words}
-use Rattle.record_layouts.specs.Records.{due, setupSize, setupAt, dueSetup, readSetupRules, readMatrixRules, markDL, dealingSize, dealingAt, dealingG, dealingH, dealingFaults, dealingLent, dueDealing, readDealingRules}
+use Rattle.record_layouts.specs.Records.{due, Layout, setupSize, setupAt, dueSetup, readSetupRules, readMatrixRules, markDL, dealingSize, dealingAt, dealingG, dealingH, dealingFaults, dealingLent, dueDealing, readDealingRules}
 
 -- a rule that does not hold leaves what stands
 pub passed-over : (r k : ℕ) (l : List Rule) → refusalFrom r ((k when false) ∷ l) ≡ refusalFrom r l
@@ -67,3 +67,12 @@ parts-room S s j k e =
     let own = due markDL (dealingSize S) s ++ (beyondField (S .p) (dealingG S s) ∷ beyondField (S .p) (dealingH S s) ∷ dealingFaults S (dealingAt s)) in
     let r = in-order S (dealingLent S j k) own tt e in
     (r .lent .0, r .lent .1 .0, ltb-false (length s) (dealingSize S) (r .own .1 .1 .0))
+
+-- a record without lists: its rules as its reader goes through them
+pub plain-read : {A : Type 0} (L : Layout A) (S : Setup) (s : List ℕ) (x : A) (l a r : ℕ) → x ≡ L .at S s → l ≡ refusal (limits S)
+    → a ≡ refusalFrom l (due (L .mark) (L .size S) s) → r ≡ refusalFrom a (L .faults S x)
+    → r ≡ refusal (limits S ++ (due (L .mark) (L .size S) s ++ L .faults S (L .at S s)))
+plain-read L S s x l a r f b d e =
+    e
+    ∙ ap (λ y. refusalFrom a (L .faults S y)) f
+    ∙ ap (λ b. refusalFrom b (L .faults S (L .at S s))) (d ∙ ap (λ b. refusalFrom b (due (L .mark) (L .size S) s)) b)
