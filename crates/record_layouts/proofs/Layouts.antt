@@ -1,17 +1,17 @@
--- What a layout owes, and that the four of DL, PV, VD and SH do.
+-- What a layout owes, what follows of an accepted writer, and that the layouts of DL, PV, VD and SH owe nothing.
 -- Lawful: its rules have numbers above 0; where its lists have the lengths needed, its words have its length and are read as the fields that they are of;
 -- and the lists that are read have the lengths needed, and all the words read are those of the fields
-use mathlib.Core.Path.{_≡_, refl, ap, _∙_}
+use mathlib.Core.Path.{_≡_, refl, sym, ap, _∙_}
 use mathlib.Core.List.{List, [], _∷_, _++_, append-nil}
 use Prim.Native.Nat.{ℕ, suc, _+_, _*_}
 use native.Mathlib.Omega.{arith}
 use lib.Dec.{T}
 use lib.ListN.{length, length-append}
-use Rattle.base.specs.Rules.{Clear}
-use Rattle.base.proofs.Rules.{positive}
-use Rattle.scheme.specs.Setup.{Setup, dim}
-use Rattle.scheme.specs.Calls.{sizes, inField}
-use Rattle.scheme.proofs.Calls.{size-is, size-clear}
+use Rattle.base.specs.Rules.{refusal, Clear}
+use Rattle.base.proofs.Rules.{positive, clear, clear-left, clear-right}
+use Rattle.scheme.specs.Setup.{Setup, dim, Limits}
+use Rattle.scheme.specs.Calls.{limits, room, sizes, inField}
+use Rattle.scheme.proofs.Calls.{limits-are, size-is, size-clear}
 use Rattle.record_layouts.specs.Words.{bytes}
 use Rattle.record_layouts.proofs.Words.{word-of, words-of, length-words, Shows, shows-append, shows-words}
 use Rattle.record_layouts.specs.declared.DealingRecord.{DealingRecord}
@@ -19,7 +19,7 @@ use Rattle.record_layouts.specs.declared.PairRecord.{PairRecord}
 use Rattle.record_layouts.specs.declared.VerdictRecord.{VerdictRecord}
 use Rattle.record_layouts.specs.declared.ShareRecord.{ShareRecord}
 use Rattle.record_layouts.specs.Records.{Layout, allWords, writeRules, markDL, DealingParts, parts, dealingWords, dealingAt, dealingG, dealingH, dealingLayout}
-use Rattle.record_layouts.specs.Records.{pairWords, pairAt, pairLayout, verdictWords, verdictAt, verdictLayout, shareWords, shareAt, shareLayout}
+use Rattle.record_layouts.specs.Records.{pairWords, pairLayout, verdictWords, verdictLayout, shareWords, shareLayout}
 
 pub record Lawful (A : Type 0) (L : Layout A) : Type 0 where
   pub positive-written : (S : Setup) (x : A) (k : ℕ) → T (positive (writeRules L S x k))
@@ -28,6 +28,28 @@ pub record Lawful (A : Type 0) (L : Layout A) : Type 0 where
   pub again : (S : Setup) (x : A) (rest : List ℕ) → Clear (sizes (L .lists S x)) → L .at S (bytes (allWords L x) ++ rest) ≡ x
   pub full : (S : Setup) (s : List ℕ) → Clear (sizes (L .lists S (L .at S s)))
   pub shows : (S : Setup) (s : List ℕ) → Shows s 1 (L .words (L .at S s))
+
+-- what an accepted writer says
+pub record Wrote (A : Type 0) (L : Layout A) (S : Setup) (x : A) (k : ℕ) : Type 0 where
+  pub limits : Limits S
+  pub lengths : Clear (sizes (L .lists S x))
+  pub own : Clear (inField (S .p) (L .lists S x) ++ L .faults S x)
+  -- its words just fill the buffer
+  pub fills : 2 * length (allWords L x) ≡ k
+
+pub wrote : {A : Type 0} (L : Layout A) (W : Lawful A L) (S : Setup) (x : A) (k : ℕ) → refusal (writeRules L S x k) ≡ 0 → Wrote A L S x k
+wrote L W S x k e =
+    let own = inField (S .p) (L .lists S x) ++ L .faults S x in
+    let lengths = sizes (room k (L .size S) ∷ L .lists S x) in
+    let c = clear (writeRules L S x k) (W .positive-written S x k) e in
+    let q = clear-right (limits S) (lengths ++ own) c in
+    let z = clear-left lengths own q in
+    record {
+      limits = limits-are S (clear-left (limits S) (lengths ++ own) c);
+      lengths = z .1;
+      own = clear-right lengths own q;
+      fills = W .long S x (z .1) ∙ sym (size-is k (L .size S) (z .0));
+    }
 
 -- DL
 pub dealing-at : (x : DealingRecord) (g h rest : List ℕ) → dealingAt (bytes (dealingWords x g h) ++ rest) ≡ x

@@ -10,7 +10,7 @@ use lib.Seq.{drop-append-seam}
 use borrow.Author.Tests.{eq-eqb, le-ltb}
 use Rattle.base.specs.Rules.{Rule, _when_, refusal, Clear, given, leftBy}
 use Rattle.base.specs.Matrix.{allBelow}
-use Rattle.base.proofs.Rules.{none-applies, not-refused, clear, clear-left, clear-right, clear-both, accepted, written}
+use Rattle.base.proofs.Rules.{none-applies, not-refused, clear-both, accepted, written}
 use Rattle.scheme.specs.Setup.{Setup, dim, Limits}
 use Rattle.scheme.specs.Calls.{limits, Lent, room, beyondField, sizes, inField, table, matrix}
 use Rattle.scheme.proofs.Calls.{limits-are, limits-clear, size-clear, elements-clear, InOrder, in-order, accepts}
@@ -20,7 +20,7 @@ use Rattle.record_layouts.specs.declared.DealingRecord.{DealingRecord}
 use Rattle.record_layouts.specs.Records.{due, Layout, allWords, writeRules, writeCall, writeLeft, readRules, readCall, markSU, setupWords, setupSize, setupAt, writeSetupRules, readSetupRules, readMatrixRules}
 use Rattle.record_layouts.specs.Records.{DealingParts, parts, dealingWords, dealingFaults, dealingLayout, dealingLent, readDealingRules, pairValues, pairLayout, verdictValues, verdictLayout, shareValues, shareLayout}
 use Rattle.record_layouts.specs.Sound.{inFile, SetupReads, ReadBack}
-use Rattle.record_layouts.proofs.Layouts.{Lawful, dealing-lawful, pair-lawful, verdict-lawful, share-lawful}
+use Rattle.record_layouts.proofs.Layouts.{Lawful, wrote, dealing-lawful, pair-lawful, verdict-lawful, share-lawful}
 use Rattle.record_layouts.proofs.Calls.{matrix-as-setup}
 
 -- a record's own bytes are due where it stands
@@ -53,12 +53,9 @@ module _ {A : Type 0} (L : Layout A) (W : Lawful A L) (S : Setup) (x : A) where
   back out before rest e lent v =
       let r = refusal (writeRules L S x (length out)) in
       let z : r ≡ 0 = not-refused r (given []) [] e .0 in
-      let lengths = sizes (room (length out) (L .size S) ∷ L .lists S x) in
-      let c = clear (writeRules L S x (length out)) (W .positive-written S x (length out)) z in
-      let q = clear-right (limits S) (lengths ++ own) c in
-      let k = clear-left lengths own q .1 in
+      let w = wrote L W S x (length out) z in
       subst (λ (s : List ℕ). (refusal (readRules L S lent s) ≡ 0) × (L .at S s ≡ x)) (sym (part-is r (bytes (allWords L x)) out before rest z))
-      (fair rest lent (limits-are S (clear-left (limits S) (lengths ++ own) c)) k (clear-right lengths own q) v, W .again S x rest k)
+      (fair rest lent (w .limits) (w .lengths) (w .own) v, W .again S x rest (w .lengths))
 
   answer-back : (out before rest : List ℕ) → writeCall L S x out ≡ given [] → (lent : List Lent) → InOrder (S .p) lent → (values : A → List ℕ)
       → let s = inFile before (writeLeft L S x out) rest in readCall L S lent s (values (L .at S s)) ≡ given (values x)

@@ -246,7 +246,11 @@ pub fn share_faults(standing: u16, s: Params, x: ShareRecord) -> u16
     let a = base::or_when(standing, 4, s.p <= x.value);
     let b = base::or_when(a, 5, s.n <= x.holder);
     let c = base::or_when(b, 5, s.l <= x.column);
-    if x.dealing == 0 { base::or_when(c, 5, x.column != 0) } else { c }
+    if x.dealing == 0 {
+        base::or_when(c, 5, x.column != 0)
+    } else {
+        c
+    }
 }
 
 // A RECORD AT THE START OF A PART OF A FILE: its mark and its length, and for SU and DL all that refuses it.
