@@ -1,26 +1,23 @@
 // Reading records: the open calls. Each takes a part of a file from a record's first byte on and reads the record that stands there; what follows it
-// is not looked at. Refusals come by the call's table in records' specs/Records.antt.
+// is not looked at. What each refuses, answers and leaves in its buffers is said by record_layouts' specs/Records.antt.
 ghost use mathlib.Core.Path.{_≡_};
 ghost use mathlib.Core.List.{[]};
-ghost use Prim.Native.Nat.{_+_, _*_, _≤_};
-ghost use lib.ListN.{length};
-ghost use Rattle.base.specs.Rules.{refusalFrom, refusal};
 ghost use Rattle.scheme.specs.Setup.{setupOf};
 ghost use Rattle.scheme.specs.Answers.{paperWritten};
-ghost use Rattle.record_layouts.specs.Records.{due, paramsAt, dealingAt, pairAt, verdictAt, shareAt};
-ghost use Rattle.record_layouts.specs.Records.{dueSetup, readSetupRules, readSetupCall, readMatrixRules, readMatrixCall, readMatrixLeft};
-ghost use Rattle.record_layouts.specs.Records.{dueDealing, dealingEntries, readDealingRules, readDealingCall, readDealingLeftG, readDealingLeftH};
-ghost use Rattle.record_layouts.specs.Records.{readPairRules, readPairCall, readVerdictRules, readVerdictCall, readShareRules, readShareCall};
+ghost use Rattle.record_layouts.specs.Records.{readSetupCall, readMatrixCall, readMatrixLeft, readDealingCall, readDealingLeftG, readDealingLeftH};
+ghost use Rattle.record_layouts.specs.Records.{readPairCall, readVerdictCall, readShareCall};
 ghost use Rattle.record_layouts.specs.Records.{paperSetupRead, paperDealingRead, paperPairRead, paperVerdictRead, paperShareRead};
 use record_layouts::DealingRead;
-use record_layouts::DealingRecord;
+use record_layouts::MARK_PV;
+use record_layouts::MARK_SH;
+use record_layouts::MARK_VD;
+use record_layouts::PAIR_SIZE;
 use record_layouts::PairRead;
-use record_layouts::PairRecord;
+use record_layouts::SHARE_SIZE;
 use record_layouts::SetupRead;
 use record_layouts::ShareRead;
-use record_layouts::ShareRecord;
+use record_layouts::VERDICT_SIZE;
 use record_layouts::VerdictRead;
-use record_layouts::VerdictRecord;
 use scheme::Params;
 use scheme::Written;
 
@@ -63,53 +60,38 @@ pub fn read_dealing(s: Params, part: &[u8], g: &mut [u16], h: &mut [u16]) -> Dea
     DealingRead::Is(record_layouts::dealing_at(part))
 }
 
-fn read_pair_refusal(s: Params, part: &[u8]) -> u16
-    ensures { λ r. ⌜ r ≡ refusal (readPairRules (setupOf s []) (now (part .entry))) ⌝ }
-{
-    let a = record_layouts::or_due(scheme::limits_refusal(s), part, MARK_PV, PAIR_SIZE);
-    record_layouts::pair_faults(a, s, record_layouts::pair_at(part))
-}
-
 pub fn read_pair_value(s: Params, part: &[u8]) -> PairRead
     ensures { λ r. ⌜ paperPairRead r ≡ readPairCall (setupOf s []) (now (part .entry)) ⌝ }
 {
-    let refusal = read_pair_refusal(s, part);
+    let x = record_layouts::pair_at(part);
+    let a = record_layouts::or_due(scheme::limits_refusal(s), part, MARK_PV, PAIR_SIZE);
+    let refusal = record_layouts::pair_faults(a, s, x);
     if refusal != 0 {
         return PairRead::Refused(refusal);
     }
-    PairRead::Is(record_layouts::pair_at(part))
-}
-
-fn read_verdict_refusal(s: Params, part: &[u8]) -> u16
-    ensures { λ r. ⌜ r ≡ refusal (readVerdictRules (setupOf s []) (now (part .entry))) ⌝ }
-{
-    let a = record_layouts::or_due(scheme::limits_refusal(s), part, MARK_VD, VERDICT_SIZE);
-    record_layouts::verdict_faults(a, s, record_layouts::verdict_at(part))
+    PairRead::Is(x)
 }
 
 pub fn read_verdict(s: Params, part: &[u8]) -> VerdictRead
     ensures { λ r. ⌜ paperVerdictRead r ≡ readVerdictCall (setupOf s []) (now (part .entry)) ⌝ }
 {
-    let refusal = read_verdict_refusal(s, part);
+    let x = record_layouts::verdict_at(part);
+    let a = record_layouts::or_due(scheme::limits_refusal(s), part, MARK_VD, VERDICT_SIZE);
+    let refusal = record_layouts::verdict_faults(a, s, x);
     if refusal != 0 {
         return VerdictRead::Refused(refusal);
     }
-    VerdictRead::Is(record_layouts::verdict_at(part))
-}
-
-fn read_share_refusal(s: Params, part: &[u8]) -> u16
-    ensures { λ r. ⌜ r ≡ refusal (readShareRules (setupOf s []) (now (part .entry))) ⌝ }
-{
-    let a = record_layouts::or_due(scheme::limits_refusal(s), part, MARK_SH, SHARE_SIZE);
-    record_layouts::share_faults(a, s, record_layouts::share_at(part))
+    VerdictRead::Is(x)
 }
 
 pub fn read_share(s: Params, part: &[u8]) -> ShareRead
     ensures { λ r. ⌜ paperShareRead r ≡ readShareCall (setupOf s []) (now (part .entry)) ⌝ }
 {
-    let refusal = read_share_refusal(s, part);
+    let x = record_layouts::share_at(part);
+    let a = record_layouts::or_due(scheme::limits_refusal(s), part, MARK_SH, SHARE_SIZE);
+    let refusal = record_layouts::share_faults(a, s, x);
     if refusal != 0 {
         return ShareRead::Refused(refusal);
     }
-    ShareRead::Is(record_layouts::share_at(part))
+    ShareRead::Is(x)
 }

@@ -1,34 +1,30 @@
-// Writing records into lent bytes: the open calls. Each first works out its refusal by its table in records' specs/Records.antt; where there is none
-// the buffer has just the record's bytes.
+// Writing records into lent bytes: the open calls. What each refuses, answers and leaves in its buffer is said by record_layouts' specs/Records.antt;
+// where nothing is refused the buffer has just the record's bytes.
 ghost use mathlib.Core.Path.{_≡_};
 ghost use mathlib.Core.List.{[]};
 ghost use Prim.Native.Nat.{_+_, _*_};
 ghost use lib.ListN.{length};
-ghost use Rattle.base.specs.Rules.{refusal};
 ghost use Rattle.scheme.specs.Setup.{setupOf};
 ghost use Rattle.scheme.specs.Answers.{paperWritten};
 ghost use Rattle.record_layouts.specs.Words.{bytes};
-ghost use Rattle.record_layouts.specs.Records.{setupWords, dealingWords, writeSetupRules, writeSetupCall, writeSetupLeft, writeDealingRules, writeDealingCall, writeDealingLeft};
-ghost use Rattle.record_layouts.specs.Records.{writePairRules, writePairCall, writePairLeft, writeVerdictRules, writeVerdictCall, writeVerdictLeft};
-ghost use Rattle.record_layouts.specs.Records.{writeShareRules, writeShareCall, writeShareLeft};
+ghost use Rattle.record_layouts.specs.Records.{setupWords, writeSetupCall, writeSetupLeft, dealingWords, writeDealingCall, writeDealingLeft};
+ghost use Rattle.record_layouts.specs.Records.{writePairCall, writePairLeft, writeVerdictCall, writeVerdictLeft, writeShareCall, writeShareLeft};
 use record_layouts::DealingRecord;
+use record_layouts::MARK_DL;
+use record_layouts::MARK_PV;
+use record_layouts::MARK_SH;
+use record_layouts::MARK_SU;
+use record_layouts::MARK_VD;
+use record_layouts::PAIR_SIZE;
 use record_layouts::PairRecord;
+use record_layouts::SHARE_SIZE;
 use record_layouts::ShareRecord;
+use record_layouts::VERDICT_SIZE;
 use record_layouts::VerdictRecord;
 use scheme::Params;
 use scheme::Written;
 
 // SU
-fn write_setup_refusal(s: Params, matrix: &[u16], room: usize) -> u16
-    ensures { λ r. ⌜ r ≡ refusal (writeSetupRules (setupOf s (now (matrix .entry))) room) ⌝ }
-{
-    let len = scheme::matrix_len(s);
-    let a = scheme::limits_refusal(s);
-    let b = scheme::or_size(a, matrix.len(), len);
-    let c = scheme::or_size(b, room, 10 + 2 * len);
-    scheme::or_elements(c, s.p, matrix)
-}
-
 // The words of an SU, which fill the buffer.
 fn put_setup(s: Params, matrix: &[u16], out: &mut [u8])
     requires { ⌜ 2 * (5 + length (now matrix)) ≡ length (now out) ⌝ }
@@ -43,7 +39,10 @@ pub fn write_setup(s: Params, matrix: &[u16], out: &mut [u8]) -> Written
     ensures answer { λ r. ⌜ paperWritten r ≡ writeSetupCall (setupOf s (now (matrix .entry))) (now (out .entry)) ⌝ }
     ensures buffer { λ _. ⌜ now (out .exit) ≡ writeSetupLeft (setupOf s (now (matrix .entry))) (now (out .entry)) ⌝ }
 {
-    let refusal = write_setup_refusal(s, matrix, out.len());
+    let len = scheme::matrix_len(s);
+    let a = scheme::or_size(scheme::limits_refusal(s), matrix.len(), len);
+    let b = scheme::or_size(a, out.len(), 10 + 2 * len);
+    let refusal = scheme::or_elements(b, s.p, matrix);
     if refusal != 0 {
         return Written::Refused(refusal);
     }
@@ -52,16 +51,6 @@ pub fn write_setup(s: Params, matrix: &[u16], out: &mut [u8]) -> Written
 }
 
 // DL
-fn write_dealing_refusal(s: Params, x: DealingRecord, g: &[u16], h: &[u16], room: usize) -> u16
-    ensures { λ r. ⌜ r ≡ refusal (writeDealingRules (setupOf s []) x (now (g .entry)) (now (h .entry)) room) ⌝ }
-{
-    let a = record_layouts::lent_dealing(s, g.len(), h.len());
-    let b = scheme::or_size(a, room, 6 + 4 * scheme::dim(s));
-    let c = scheme::or_elements(b, s.p, g);
-    let e = scheme::or_elements(c, s.p, h);
-    record_layouts::dealing_faults(e, s, x)
-}
-
 // The words of a DL, which fill the buffer.
 fn put_dealing(x: DealingRecord, g: &[u16], h: &[u16], out: &mut [u8])
     requires { ⌜ 2 * (3 + length (now g) + length (now h)) ≡ length (now out) ⌝ }
@@ -77,7 +66,12 @@ pub fn write_dealing(s: Params, x: DealingRecord, g: &[u16], h: &[u16], out: &mu
     ensures answer { λ r. ⌜ paperWritten r ≡ writeDealingCall (setupOf s []) x (now (g .entry)) (now (h .entry)) (now (out .entry)) ⌝ }
     ensures buffer { λ _. ⌜ now (out .exit) ≡ writeDealingLeft (setupOf s []) x (now (g .entry)) (now (h .entry)) (now (out .entry)) ⌝ }
 {
-    let refusal = write_dealing_refusal(s, x, g, h, out.len());
+    let d = scheme::dim(s);
+    let a = scheme::or_size(scheme::limits_refusal(s), out.len(), 6 + 4 * d);
+    let b = scheme::or_size(a, g.len(), d);
+    let c = scheme::or_size(b, h.len(), d);
+    let e = scheme::or_elements(scheme::or_elements(c, s.p, g), s.p, h);
+    let refusal = record_layouts::dealing_faults(e, s, x);
     if refusal != 0 {
         return Written::Refused(refusal);
     }
@@ -86,18 +80,12 @@ pub fn write_dealing(s: Params, x: DealingRecord, g: &[u16], h: &[u16], out: &mu
 }
 
 // PV
-fn write_pair_refusal(s: Params, x: PairRecord, room: usize) -> u16
-    ensures { λ r. ⌜ r ≡ refusal (writePairRules (setupOf s []) x room) ⌝ }
-{
-    let a = scheme::or_size(scheme::limits_refusal(s), room, PAIR_SIZE);
-    record_layouts::pair_faults(a, s, x)
-}
-
 pub fn write_pair_value(s: Params, x: PairRecord, out: &mut [u8]) -> Written
     ensures answer { λ r. ⌜ paperWritten r ≡ writePairCall (setupOf s []) x (now (out .entry)) ⌝ }
     ensures buffer { λ _. ⌜ now (out .exit) ≡ writePairLeft (setupOf s []) x (now (out .entry)) ⌝ }
 {
-    let refusal = write_pair_refusal(s, x, out.len());
+    let a = scheme::or_size(scheme::limits_refusal(s), out.len(), PAIR_SIZE);
+    let refusal = record_layouts::pair_faults(a, s, x);
     if refusal != 0 {
         return Written::Refused(refusal);
     }
@@ -107,18 +95,12 @@ pub fn write_pair_value(s: Params, x: PairRecord, out: &mut [u8]) -> Written
 }
 
 // VD
-fn write_verdict_refusal(s: Params, x: VerdictRecord, room: usize) -> u16
-    ensures { λ r. ⌜ r ≡ refusal (writeVerdictRules (setupOf s []) x room) ⌝ }
-{
-    let a = scheme::or_size(scheme::limits_refusal(s), room, VERDICT_SIZE);
-    record_layouts::verdict_faults(a, s, x)
-}
-
 pub fn write_verdict(s: Params, x: VerdictRecord, out: &mut [u8]) -> Written
     ensures answer { λ r. ⌜ paperWritten r ≡ writeVerdictCall (setupOf s []) x (now (out .entry)) ⌝ }
     ensures buffer { λ _. ⌜ now (out .exit) ≡ writeVerdictLeft (setupOf s []) x (now (out .entry)) ⌝ }
 {
-    let refusal = write_verdict_refusal(s, x, out.len());
+    let a = scheme::or_size(scheme::limits_refusal(s), out.len(), VERDICT_SIZE);
+    let refusal = record_layouts::verdict_faults(a, s, x);
     if refusal != 0 {
         return Written::Refused(refusal);
     }
@@ -128,18 +110,12 @@ pub fn write_verdict(s: Params, x: VerdictRecord, out: &mut [u8]) -> Written
 }
 
 // SH
-fn write_share_refusal(s: Params, x: ShareRecord, room: usize) -> u16
-    ensures { λ r. ⌜ r ≡ refusal (writeShareRules (setupOf s []) x room) ⌝ }
-{
-    let a = scheme::or_size(scheme::limits_refusal(s), room, SHARE_SIZE);
-    record_layouts::share_faults(a, s, x)
-}
-
 pub fn write_share(s: Params, x: ShareRecord, out: &mut [u8]) -> Written
     ensures answer { λ r. ⌜ paperWritten r ≡ writeShareCall (setupOf s []) x (now (out .entry)) ⌝ }
     ensures buffer { λ _. ⌜ now (out .exit) ≡ writeShareLeft (setupOf s []) x (now (out .entry)) ⌝ }
 {
-    let refusal = write_share_refusal(s, x, out.len());
+    let a = scheme::or_size(scheme::limits_refusal(s), out.len(), SHARE_SIZE);
+    let refusal = record_layouts::share_faults(a, s, x);
     if refusal != 0 {
         return Written::Refused(refusal);
     }

@@ -14,12 +14,12 @@ use Rattle.record_layouts.proofs.Calls.{parts-room}
 use Rattle.record_reading.proofs.read_dealing.Statement.{statement}
 use Rattle.record_reading.proofs.read_dealing.Tie as tie
 
-read-dealing-refusal-requires : tie.Need-read-dealing-refusal-requires
-read-dealing-refusal-requires c κs = search needs
+dealing-refusal-requires : tie.Need-dealing-refusal-requires
+dealing-refusal-requires c κs = search needs
 
 returns : tie.Need-returns
 returns c =
-    let e = c .before .read-dealing-refusal .ensures in
+    let e = c .before .dealing-refusal .ensures in
     let t = c .if1 .taken in
     (rw (← e) (declined _ _ t), (rw (← e) (unchanged _ _ _ t), rw (← e) (unchanged _ _ _ t)))
 
@@ -27,7 +27,7 @@ get-words-requires : tie.Need-get-words-requires
 get-words-requires c κs =
     let r = c .before .before in
     let x = r .before .before .before .before .args in
-    let k = parts-room (setupOf (x .s) []) (x .part .now) (length (x .g .now)) (length (x .h .now)) (sym (r .read-dealing-refusal .ensures) ∙ c .before .if1 .left) in
+    let k = parts-room (setupOf (x .s) []) (x .part .now) (length (x .g .now)) (length (x .h .now)) (sym (r .dealing-refusal .ensures) ∙ c .before .if1 .left) in
     omega (arith, k .0, k .2)
 
 dim-requires : tie.Need-dim-requires
@@ -40,7 +40,7 @@ get-words-requires-2 : tie.Need-get-words-requires-2
 get-words-requires-2 c κs =
     let r = c .before .before .before .before .before .before .before in
     let x = r .before .before .before .before .args in
-    let k = parts-room (setupOf (x .s) []) (x .part .now) (length (x .g .now)) (length (x .h .now)) (sym (r .read-dealing-refusal .ensures) ∙ c .before .before .before .before .before .before .if1 .left) in
+    let k = parts-room (setupOf (x .s) []) (x .part .now) (length (x .g .now)) (length (x .h .now)) (sym (r .dealing-refusal .ensures) ∙ c .before .before .before .before .before .before .if1 .left) in
     omega (arith, k .1, k .2, c .before .dim .ensures .0)
 
 dealing-at-requires : tie.Need-dealing-at-requires
@@ -56,7 +56,7 @@ returns-2 : tie.Need-returns-2
 returns-2 c =
     let r = c .before .before .before .before .before .before .before .before .before .before .before in
     let x = r .before .before .before .before .args in
-    let z = sym (r .read-dealing-refusal .ensures) ∙ c .before .before .before .before .before .before .before .before .before .before .if1 .left in
+    let z = sym (r .dealing-refusal .ensures) ∙ c .before .before .before .before .before .before .before .before .before .before .if1 .left in
     let k = parts-room (setupOf (x .s) []) (x .part .now) (length (x .g .now)) (length (x .h .now)) z in
     let d = c .before .before .before .before .before .dim in (
       ap (λ (y : DealingRecord). given (y .dealing ∷ y .holder ∷ [])) (c .dealing-at .ensures) ∙ accepted _ _ z,
@@ -73,7 +73,7 @@ pub read-dealing-spec : {M : Type 1} → statement M
 read-dealing-spec =
     tie.close
     (tie.spec
-    read-dealing-refusal-requires
+    dealing-refusal-requires
     returns
     get-words-requires
     dim-requires

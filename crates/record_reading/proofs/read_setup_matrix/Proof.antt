@@ -9,19 +9,19 @@ use Rattle.record_layouts.proofs.Calls.{matrix-room}
 use Rattle.record_reading.proofs.read_setup_matrix.Statement.{statement}
 use Rattle.record_reading.proofs.read_setup_matrix.Tie as tie
 
-read-matrix-refusal-requires : tie.Need-read-matrix-refusal-requires
-read-matrix-refusal-requires c κs = search needs
+matrix-refusal-requires : tie.Need-matrix-refusal-requires
+matrix-refusal-requires c κs = search needs
 
 returns : tie.Need-returns
 returns c =
-    let e = c .before .read-matrix-refusal .ensures in
+    let e = c .before .matrix-refusal .ensures in
     (rw (← e) (declined _ _ (c .if1 .taken)), rw (← e) (unchanged _ _ _ (c .if1 .taken)))
 
 get-words-requires : tie.Need-get-words-requires
 get-words-requires c κs =
     let r = c .before .before in
     let x = r .before .before .before .args in
-    let k = matrix-room (x .s .now) (length (x .matrix .now)) (sym (r .read-matrix-refusal .ensures) ∙ c .before .if1 .left) in
+    let k = matrix-room (x .s .now) (length (x .matrix .now)) (sym (r .matrix-refusal .ensures) ∙ c .before .if1 .left) in
     omega (arith, k .0, k .1)
 
 same-length : tie.Need-same-length
@@ -31,7 +31,7 @@ returns-2 : tie.Need-returns-2
 returns-2 c =
     let r = c .before .before .before .before .before in
     let x = r .before .before .before .args in
-    let z = sym (r .read-matrix-refusal .ensures) ∙ c .before .before .before .before .if1 .left in (
+    let z = sym (r .matrix-refusal .ensures) ∙ c .before .before .before .before .if1 .left in (
       accepted _ _ z,
       written _ _ _ _ z (c .before .before .get-words .ensures ∙ ap (wordsAt (x .s .now) 5) (matrix-room (x .s .now) (length (x .matrix .now)) z .0)),
     )
@@ -39,4 +39,4 @@ returns-2 c =
 pub read-setup-matrix-spec : {M : Type 1} → statement M
 read-setup-matrix-spec =
     tie.close
-    (tie.spec read-matrix-refusal-requires returns get-words-requires same-length returns-2)
+    (tie.spec matrix-refusal-requires returns get-words-requires same-length returns-2)

@@ -1,56 +1,71 @@
--- Where nothing is refused, the record's words fill the buffer just up.
+-- The rules of the table, in its order; where nothing is refused, the record's words fill the buffer just up.
+-- is, fits: the refusal, and that the words just fill the buffer
+use Prim.Native.Nat.{_*_}
 use mathlib.Core.List.{[]}
-use mathlib.Core.Path.{sym, _∙_}
+use mathlib.Core.Path.{_≡_, sym, _∙_}
 use native.Mathlib.Omega.{arith}
 use borrow.Author.Needs.{needs}
 use lib.ListN.{length}
-use Rattle.scheme.specs.Setup.{setupOf}
+use Rattle.base.specs.Rules.{refusal}
 use Rattle.base.proofs.Rules.{declined, unchanged, accepted, written}
+use Rattle.scheme.specs.Setup.{setupOf}
 use Rattle.record_layouts.specs.Words.{bytes}
 use Rattle.record_layouts.proofs.Words.{length-bytes, sets-whole}
-use Rattle.record_layouts.specs.Records.{pairWords, pairFaults}
-use Rattle.record_layouts.proofs.Calls.{room-just}
+use Rattle.record_layouts.specs.Records.{writeRules, pairWords, pairLayout}
+use Rattle.record_layouts.proofs.Layouts.{wrote, pair-lawful}
 use Rattle.record_writing.proofs.write_pair_value.Statement.{statement}
 use Rattle.record_writing.proofs.write_pair_value.Tie as tie
 
-write-pair-refusal-requires : tie.Need-write-pair-refusal-requires
-write-pair-refusal-requires c κs = search needs
+is : (c : tie.After-pair-faults) → let x = c .before .before .before .before .args in
+    c .pair-faults .result ≡ refusal (writeRules pairLayout (setupOf (x .s) []) (x .x) (length (x .out .now)))
+is c = cc
+
+fits : (c : tie.Else1) → let x = c .before .before .before .before .before .args in 2 * length (pairWords (x .x)) ≡ length (x .out .now)
+fits c =
+    let x = c .before .before .before .before .before .args in
+    wrote pairLayout pair-lawful (setupOf (x .s) []) (x .x) (length (x .out .now)) (sym (is (c .before)) ∙ c .if1 .left) .fills
+
+limits-refusal-requires : tie.Need-limits-refusal-requires
+limits-refusal-requires c κs = search needs
+
+or-size-requires : tie.Need-or-size-requires
+or-size-requires c κs = search needs
+
+pair-faults-requires : tie.Need-pair-faults-requires
+pair-faults-requires c κs = search needs
 
 returns : tie.Need-returns
 returns c =
-    let e = c .before .write-pair-refusal .ensures in
+    let e = is (c .before) in
     (rw (← e) (declined _ _ (c .if1 .taken)), rw (← e) (unchanged _ _ _ (c .if1 .taken)))
 
 slice-aggregate-put-words : tie.Need-slice-aggregate-put-words
 slice-aggregate-put-words c = search needs
 
 put-words-requires : tie.Need-put-words-requires
-put-words-requires c κs =
-    let r = c .before .before .before in
-    let x = r .before .before .args in
-    let z = sym (r .write-pair-refusal .ensures) ∙ c .before .before .if1 .left in
-    omega (arith, room-just (setupOf (x .s) []) (length (x .out .now)) 10 (pairFaults (setupOf (x .s) []) (x .x)) tt z)
+put-words-requires c κs = omega (arith, fits (c .before .before))
 
 same-length : tie.Need-same-length
 same-length c = search needs
 
 returns-2 : tie.Need-returns-2
 returns-2 c =
-    let r = c .before .before .before .before .before .before in
-    let x = r .before .before .args in
-    let z = sym (r .write-pair-refusal .ensures) ∙ c .before .before .before .before .before .if1 .left in (
+    let w = c .before .before .before .before .before in
+    let x = w .before .before .before .before .before .args in
+    let z = sym (is (w .before)) ∙ w .if1 .left in (
       accepted _ _ z,
       written _ _ _ _ z
           (c .before .before .put-words .ensures
-          ∙ sets-whole (x .out .now) (bytes (pairWords (x .x)))
-          (length-bytes (pairWords (x .x)) ∙ sym (room-just (setupOf (x .s) []) _ 10 (pairFaults (setupOf (x .s) []) (x .x)) tt z))),
+          ∙ sets-whole (x .out .now) (bytes (pairWords (x .x))) (length-bytes (pairWords (x .x)) ∙ fits w)),
     )
 
 pub write-pair-value-spec : {M : Type 1} → statement M
 write-pair-value-spec =
     tie.close
     (tie.spec
-    write-pair-refusal-requires
+    limits-refusal-requires
+    or-size-requires
+    pair-faults-requires
     returns
     slice-aggregate-put-words
     put-words-requires
