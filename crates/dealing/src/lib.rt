@@ -265,7 +265,7 @@ fn random_len(s: Params) -> usize
     ensures { λ r. ⌜ r ≡ (s .l + s .e) * (s .l + s .e) - s .l * s .l ⌝ }
 {
     let l = s.l as usize;
-    let d = scheme::dim(s);
+    let d = s.dim();
     d * d - l * l
 }
 
@@ -299,7 +299,7 @@ fn deal_refusal(
 ) -> u16
     ensures { λ r. ⌜ r ≡ refusal (dealRules (setupOf s (now (matrix .entry))) (now (secrets .entry)) (now (random .entry)) holder (now (g .entry)) (now (h .entry))) ⌝ }
 {
-    let d = scheme::dim(s);
+    let d = s.dim();
     let a = inputs_refusal(s, matrix, secrets, random);
     let b = scheme::or_size(a, g.len(), d);
     let c = scheme::or_size(b, h.len(), d);
@@ -324,7 +324,7 @@ pub fn deal(
     if refusal != 0 {
         return Written::Refused(refusal);
     }
-    let d = scheme::dim(s);
+    let d = s.dim();
     let mut f = [0u16; 256];
     fill_dealt(s, secrets, random, &mut f);
     write_g(s.p, d, matrix, &f, holder as usize, g, 0);
@@ -343,7 +343,7 @@ fn deal_all_refusal(
 ) -> u16
     ensures { λ r. ⌜ r ≡ refusal (dealAllRules (setupOf s (now (matrix .entry))) (now (secrets .entry)) (now (random .entry)) (now (gs .entry)) (now (hs .entry))) ⌝ }
 {
-    let size = scheme::matrix_len(s);
+    let size = s.matrix_len();
     let a = inputs_refusal(s, matrix, secrets, random);
     let b = scheme::or_size(a, gs.len(), size);
     let c = scheme::or_size(b, hs.len(), size);
@@ -367,7 +367,7 @@ pub fn deal_all(
     if refusal != 0 {
         return Written::Refused(refusal);
     }
-    let d = scheme::dim(s);
+    let d = s.dim();
     let mut f = [0u16; 256];
     fill_dealt(s, secrets, random, &mut f);
     write_all(s.p, d, s.n as usize, matrix, &f, gs, hs);

@@ -115,7 +115,7 @@ fn read_setup(file: &[u8]) -> SetupPart
             matrix: [0; 512],
         };
     }
-    let matrix = matrix_at(file, scheme::matrix_len(setup));
+    let matrix = matrix_at(file, setup.matrix_len());
     SetupPart {
         refusal,
         setup,
@@ -170,7 +170,7 @@ fn read_dealing(s: Params, file: &[u8], at: usize) -> DealingPart
     if second_setup(t) {
         return no_dealing(10);
     }
-    let d = scheme::dim(s);
+    let d = s.dim();
     let refusal = record_layouts::dealing_refusal(s, t, d, d);
     if refusal != 0 {
         return no_dealing(refusal);
@@ -235,8 +235,8 @@ fn judge(su: SetupPart, dl: DealingPart, values: &[u16]) -> Judged
     let s = su.setup;
     let matrix = su.matrix;
     let h = dl.h;
-    let len = scheme::matrix_len(s);
-    let d = scheme::dim(s);
+    let len = s.matrix_len();
+    let d = s.dim();
     judging::judge(s, &matrix[..len], &h[..d], values)
 }
 
@@ -248,7 +248,7 @@ fn tell(s: Params, dl: DealingPart, judgement: Judgement, verdicts: &[u16], len:
 {
     let x = dl.record;
     let g = dl.g;
-    let d = scheme::dim(s);
+    let d = s.dim();
     let l = s.l as usize;
     let mut shares = [0u16; 8];
     match judging::outcome(s, &g[..d], verdicts, &mut shares[..l]) {
@@ -336,11 +336,11 @@ pub fn read_file(file: &[u8]) -> Reading
         return refused(a, 0);
     }
     let s = su.setup;
-    let at = 10 + 2 * scheme::matrix_len(s);
+    let at = 10 + 2 * s.matrix_len();
     let dl = read_dealing(s, file, at);
     let b = dl.refusal;
     if b != 0 {
         return refused(b, at);
     }
-    receive(su, dl, file, at + 6 + 4 * scheme::dim(s))
+    receive(su, dl, file, at + 6 + 4 * s.dim())
 }

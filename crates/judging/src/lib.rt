@@ -33,7 +33,7 @@ fn pair_value_refusal(s: Params, matrix: &[u16], g: &[u16], to: u16) -> u16
     ensures { λ r. ⌜ r ≡ refusal (pairValueRules (setupOf s (now (matrix .entry))) (now (g .entry)) to) ⌝ }
 {
     let a = scheme::setup_refusal(s, matrix.len());
-    let b = scheme::or_size(a, g.len(), scheme::dim(s));
+    let b = scheme::or_size(a, g.len(), s.dim());
     let c = scheme::or_elements(b, s.p, matrix);
     let d = scheme::or_elements(c, s.p, g);
     base::or_when(d, 5, s.n <= to)
@@ -47,7 +47,7 @@ pub fn pair_value(s: Params, matrix: &[u16], g: &[u16], to: u16) -> Value
     if refusal != 0 {
         return Value::Refused(refusal);
     }
-    let value = rows_product(s.p, scheme::dim(s), g, 0, matrix, to as usize);
+    let value = rows_product(s.p, s.dim(), g, 0, matrix, to as usize);
     Value::Is(value)
 }
 
@@ -56,7 +56,7 @@ fn judge_refusal(s: Params, matrix: &[u16], h: &[u16], values: &[u16]) -> u16
     ensures { λ r. ⌜ r ≡ refusal (judgeRules (setupOf s (now (matrix .entry))) (now (h .entry)) (now (values .entry))) ⌝ }
 {
     let a = scheme::setup_refusal(s, matrix.len());
-    let b = scheme::or_size(a, h.len(), scheme::dim(s));
+    let b = scheme::or_size(a, h.len(), s.dim());
     let c = scheme::or_size(b, values.len(), s.n as usize);
     let d = scheme::or_elements(c, s.p, matrix);
     let e = scheme::or_elements(d, s.p, h);
@@ -69,7 +69,7 @@ fn lowest_that_differs(s: Params, matrix: &[u16], h: &[u16], values: &[u16]) -> 
     ensures { λ r. ⌜ r ≡ first (differs (setupOf s (now (matrix .entry))) (now (h .entry)) (now (values .entry))) (s .n) ⌝ }
 {
     let n = s.n;
-    let d = scheme::dim(s);
+    let d = s.dim();
     let mut j: u16 = 0;
     while j < n {
         let due = rows_product(s.p, d, matrix, j as usize, h, 0);
@@ -110,7 +110,7 @@ fn outcome_refusal(s: Params, g: &[u16], verdicts: &[u16], shares: &[u16]) -> u1
     ensures { λ r. ⌜ r ≡ refusal (outcomeRules (setupOf s []) (now (g .entry)) (now (verdicts .entry)) (now (shares .entry))) ⌝ }
 {
     let a = scheme::limits_refusal(s);
-    let b = scheme::or_size(a, g.len(), scheme::dim(s));
+    let b = scheme::or_size(a, g.len(), s.dim());
     let c = scheme::or_size(b, verdicts.len(), s.n as usize);
     let e = scheme::or_size(c, shares.len(), s.l as usize);
     let f = scheme::or_elements(e, s.p, g);
@@ -180,7 +180,7 @@ pub fn outcome(s: Params, g: &[u16], verdicts: &[u16], shares: &mut [u16]) -> Se
 fn rehearse_refusal(s: Params, matrix: &[u16], gs: &[u16], hs: &[u16]) -> u16
     ensures { λ r. ⌜ r ≡ refusal (rehearseRules (setupOf s (now (matrix .entry))) (now (gs .entry)) (now (hs .entry))) ⌝ }
 {
-    let len = scheme::matrix_len(s);
+    let len = s.matrix_len();
     let a = scheme::setup_refusal(s, matrix.len());
     let b = scheme::or_size(a, gs.len(), len);
     let c = scheme::or_size(b, hs.len(), len);
@@ -195,7 +195,7 @@ fn first_pair(s: Params, matrix: &[u16], gs: &[u16], hs: &[u16]) -> Rehearsal
     ensures { λ r. ⌜ paperRehearsal r ≡ rehearse (setupOf s (now (matrix .entry))) (now (gs .entry)) (now (hs .entry)) ⌝ }
 {
     let n = s.n;
-    let d = scheme::dim(s);
+    let d = s.dim();
     let mut i: u16 = 0;
     let mut j: u16 = 0;
     'holders: while i < n {

@@ -51,7 +51,7 @@ fn open_by(
         let position = q as u16;
         return Opened::Undetermined(position);
     }
-    let d = scheme::dim(s);
+    let d = s.dim();
     if read_off::unsolved(a, used, k, d + 1, d) < k {
         return Opened::Inconsistent;
     }
@@ -71,7 +71,7 @@ pub fn open(s: Params, matrix: &[u16], set: u32, shares: &[u16], secrets: &mut [
     let mut buffer = [0u16; 544];
     let mut marks = [0u16; 32];
     let k = shares.len();
-    let end = k * (scheme::dim(s) + 1);
+    let end = k * (s.dim() + 1);
     open_by(
         s,
         matrix,

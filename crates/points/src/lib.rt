@@ -164,7 +164,7 @@ fn points_in(field: Field, s: Params, matrix: &mut [u16]) -> Written
     ensures { λ _. ⌜ now (matrix .exit) ≡ pointsLeft (setupOf s (now (matrix .entry))) ⌝ }
 {
     let p = field.order();
-    let d = scheme::dim(s);
+    let d = s.dim();
     let early = scheme::setup_refusal(s, matrix.len());
     let refusal = base::or_when(early, 15, (p as usize) < d + (s.n as usize));
     let answer = written(refusal);

@@ -271,7 +271,7 @@ pub fn matrix_refusal(s: &[u8], room: usize) -> u16
         return a;
     }
     let x = params_at(s);
-    let len = scheme::matrix_len(x);
+    let len = x.matrix_len();
     let b = scheme::limits_refusal(x);
     let c = base::or_when(b, 3, s.len() < 10 + 2 * len);
     if c != 0 {
@@ -284,14 +284,14 @@ pub fn matrix_refusal(s: &[u8], room: usize) -> u16
 pub fn setup_refusal(s: &[u8]) -> u16
     ensures { λ r. ⌜ r ≡ refusal (readSetupRules (now (s .entry))) ⌝ }
 {
-    matrix_refusal(s, scheme::matrix_len(params_at(s)))
+    matrix_refusal(s, params_at(s).matrix_len())
 }
 
 // What is lent with a DL, then its mark and its length.
 fn dealing_due(s: Params, part: &[u8], g_room: usize, h_room: usize) -> u16
     ensures { λ r. ⌜ r ≡ refusal (dueDealing (setupOf s []) (now (part .entry)) «g_room» «h_room») ⌝ }
 {
-    let d = scheme::dim(s);
+    let d = s.dim();
     let a = scheme::limits_refusal(s);
     let b = scheme::or_size(a, g_room, d);
     let c = scheme::or_size(b, h_room, d);
@@ -306,7 +306,7 @@ pub fn dealing_refusal(s: Params, part: &[u8], g_room: usize, h_room: usize) -> 
     if a != 0 {
         return a;
     }
-    let d = scheme::dim(s);
+    let d = s.dim();
     let b = or_words(0, part, 3, d, s.p);
     let c = or_words(b, part, 3 + d, d, s.p);
     dealing_faults(c, s, dealing_at(part))

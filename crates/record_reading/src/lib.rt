@@ -56,7 +56,7 @@ pub fn read_dealing(s: Params, part: &[u8], g: &mut [u16], h: &mut [u16]) -> Dea
         return DealingRead::Refused(refusal);
     }
     record_layouts::get_words(part, 3, g);
-    record_layouts::get_words(part, 3 + scheme::dim(s), h);
+    record_layouts::get_words(part, 3 + s.dim(), h);
     DealingRead::Is(record_layouts::dealing_at(part))
 }
 

@@ -39,7 +39,7 @@ pub fn write_setup(s: Params, matrix: &[u16], out: &mut [u8]) -> Written
     ensures answer { λ r. ⌜ paperWritten r ≡ writeSetupCall (setupOf s (now (matrix .entry))) (now (out .entry)) ⌝ }
     ensures buffer { λ _. ⌜ now (out .exit) ≡ writeSetupLeft (setupOf s (now (matrix .entry))) (now (out .entry)) ⌝ }
 {
-    let len = scheme::matrix_len(s);
+    let len = s.matrix_len();
     let a = scheme::or_size(scheme::limits_refusal(s), matrix.len(), len);
     let b = scheme::or_size(a, out.len(), 10 + 2 * len);
     let refusal = scheme::or_elements(b, s.p, matrix);
@@ -66,7 +66,7 @@ pub fn write_dealing(s: Params, x: DealingRecord, g: &[u16], h: &[u16], out: &mu
     ensures answer { λ r. ⌜ paperWritten r ≡ writeDealingCall (setupOf s []) x (now (g .entry)) (now (h .entry)) (now (out .entry)) ⌝ }
     ensures buffer { λ _. ⌜ now (out .exit) ≡ writeDealingLeft (setupOf s []) x (now (g .entry)) (now (h .entry)) (now (out .entry)) ⌝ }
 {
-    let d = scheme::dim(s);
+    let d = s.dim();
     let a = scheme::or_size(scheme::limits_refusal(s), out.len(), 6 + 4 * d);
     let b = scheme::or_size(a, g.len(), d);
     let c = scheme::or_size(b, h.len(), d);

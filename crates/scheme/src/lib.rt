@@ -19,6 +19,22 @@ pub struct Params {
     pub n: u16,
 }
 
+impl Params {
+    // d = ℓ + e.
+    pub fn dim(self) -> usize
+        ensures { λ r. ⌜ (r ≡ self .l + self .e) × (r ≤ 131070) ⌝ }
+    {
+        (self.l as usize) + (self.e as usize)
+    }
+
+    // The length of the matrix, and of a list of one part for each holder: n * d.
+    pub fn matrix_len(self) -> usize
+        ensures { λ r. ⌜ r ≡ self .n * (self .l + self .e) ⌝ }
+    {
+        (self.n as usize) * self.dim()
+    }
+}
+
 // A call that writes buffers only.
 pub enum Written {
     Done,
@@ -99,20 +115,6 @@ pub fn declined(written: Written) -> u16
     }
 }
 
-// d = ℓ + e.
-pub fn dim(s: Params) -> usize
-    ensures { λ r. ⌜ (r ≡ s .l + s .e) × (r ≤ 131070) ⌝ }
-{
-    (s.l as usize) + (s.e as usize)
-}
-
-// The length of the matrix, and of a list of one part for each holder: n * d.
-pub fn matrix_len(s: Params) -> usize
-    ensures { λ r. ⌜ r ≡ s .n * (s .l + s .e) ⌝ }
-{
-    (s.n as usize) * dim(s)
-}
-
 // Whether x is below low or above high.
 fn outside(low: u16, high: u16, x: u16) -> bool
     ensures { λ r. ⌜ r ≡ outside low high x ⌝ }
@@ -127,10 +129,13 @@ fn outside(low: u16, high: u16, x: u16) -> bool
 pub fn limits_refusal(s: Params) -> u16
     ensures { λ r. ⌜ r ≡ refusal (limits (setupOf s [])) ⌝ }
 {
+    let secret = outside(1, 8, s.l);
+    let random = outside(1, 8, s.e);
+    let holders = outside(1, 32, s.n);
     let a = base::or_when(0, 1, field::no_field(s.p));
-    let b = base::or_when(a, 2, outside(1, 8, s.l));
-    let c = base::or_when(b, 2, outside(1, 8, s.e));
-    base::or_when(c, 2, outside(1, 32, s.n))
+    let b = base::or_when(a, 2, secret);
+    let c = base::or_when(b, 2, random);
+    base::or_when(c, 2, holders)
 }
 
 // One rule of refusal 3: a lent length is not the one needed.
@@ -151,6 +156,6 @@ pub fn or_elements(standing: u16, p: u16, s: &[u16]) -> u16
 pub fn setup_refusal(s: Params, len: usize) -> u16
     ensures { λ r. ⌜ r ≡ refusal (setupRules (setupOf s []) len) ⌝ }
 {
-    let needed = matrix_len(s);
+    let needed = s.matrix_len();
     or_size(limits_refusal(s), len, needed)
 }

@@ -49,7 +49,7 @@ pub fn determines(s: Params, matrix: &[u16], set: u32) -> Decided
     let zeros = [0u16; 32];
     let l = s.l as usize;
     let k = set_systems::size(set);
-    let end = k * (scheme::dim(s) + 1);
+    let end = k * (s.dim() + 1);
     let q = set_systems::reduce_beside(
         s,
         matrix,
@@ -70,7 +70,7 @@ fn seek_row(s: Params, matrix: &[u16], set: u32, q: usize, out: &mut [u16]) -> b
 {
     let mut buffer = [0u16; 528];
     let mut marks = [0u16; 16];
-    let d = scheme::dim(s);
+    let d = s.dim();
     let k = out.len();
     let end = d * (k + 1);
     let a = &mut buffer[..end];
@@ -182,7 +182,7 @@ pub fn judge_set(s: Params, matrix: &[u16], set: u32, position: u16, out: &mut [
     if seek_row(s, matrix, set, q, &mut out[..k]) {
         return SetJudged::Row;
     }
-    let d = scheme::dim(s);
+    let d = s.dim();
     if seek_vector(s, matrix, set, q, &mut out[..d]) {
         return SetJudged::Vector;
     }

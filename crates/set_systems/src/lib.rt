@@ -116,7 +116,7 @@ pub fn reduce_beside(
 {
     let mut members = [0u16; 32];
     let k = walk(set, &mut members);
-    let d = scheme::dim(s);
+    let d = s.dim();
     load_beside(matrix, d, &members[..k], shares, a);
     elimination::reduce(a, used, k, d + 1, d, s.p);
     lacking(a, used, k, d + 1, d, s.l as usize)
@@ -168,7 +168,7 @@ pub fn reduce_across(s: Params, matrix: &[u16], set: u32, q: usize, a: &mut [u16
 {
     let mut members = [0u16; 32];
     let k = walk(set, &mut members);
-    let d = scheme::dim(s);
+    let d = s.dim();
     load_across(matrix, d, &members[..k], q, a);
     elimination::reduce(a, used, d, k + 1, k, s.p);
 }

@@ -4,8 +4,8 @@ use mathlib.Core.Path.{ap}
 use native.Mathlib.Nat.{mul-le-mul}
 use native.Mathlib.Omega.{arith}
 use borrow.Author.Needs.{needs}
-use Rattle.scheme.proofs.matrix_len.Statement.{statement}
-use Rattle.scheme.proofs.matrix_len.Tie as tie
+use Rattle.scheme.proofs.Params.matrix_len.Statement.{statement}
+use Rattle.scheme.proofs.Params.matrix_len.Tie as tie
 
 cast-result : tie.Need-cast-result
 cast-result c = search needs
@@ -15,10 +15,10 @@ dim-requires c κs = search needs
 
 mul-result : tie.Need-mul-result
 mul-result c =
-    omega (arith, mul-le-mul {n₁ = c .before .before .args .s .n} {m₁ = c .dim .result} {n₂ = 65535} {m₂ = 131070} (omega arith) (c .dim .ensures .1))
+    omega (arith, mul-le-mul {n₁ = c .before .before .args .self .n} {m₁ = c .dim .result} {n₂ = 65535} {m₂ = 131070} (omega arith) (c .dim .ensures .1))
 
 returns : tie.Need-returns
-returns c = ap (λ d. c .before .before .args .s .n * d) (c .dim .ensures .0)
+returns c = ap (λ d. c .before .before .args .self .n * d) (c .dim .ensures .0)
 
 pub matrix-len-spec : {M : Type 1} → statement M
 matrix-len-spec = tie.close (tie.spec cast-result dim-requires mul-result returns)
