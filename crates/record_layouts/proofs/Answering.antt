@@ -10,7 +10,7 @@ use lib.ListN.{length}
 use borrow.Author.Tests.{eqb-true, eq-eqb, ne-eqb, lt-leb}
 use Rattle.base.specs.Rules.{refusal, Clear, Answer, given, answerBy}
 use Rattle.base.proofs.Rules.{accepted}
-use Rattle.scheme.specs.Setup.{Setup, dim, Limits, IsSetup}
+use Rattle.scheme.specs.Setup.{Setup, dim, IsSetup}
 use Rattle.scheme.specs.Calls.{matrix, room, elements}
 use Rattle.scheme.specs.Answering.{Answers}
 use Rattle.scheme.proofs.Calls.{limits-clear, elements-clear, accepts}
@@ -20,7 +20,7 @@ use Rattle.record_layouts.specs.declared.DealingRecord.{DealingRecord}
 use Rattle.record_layouts.specs.declared.PairRecord.{PairRecord}
 use Rattle.record_layouts.specs.declared.VerdictRecord.{VerdictRecord}
 use Rattle.record_layouts.specs.declared.ShareRecord.{ShareRecord}
-use Rattle.record_layouts.specs.Records.{writeRules, readRules, setupWords, setupSize, writeSetupRules, readSetupRules, readMatrixRules, setupAt}
+use Rattle.record_layouts.specs.Records.{writeRules, readRules, setupWords, setupSize, writeSetupRules, readSetupRules, readMatrixRules}
 use Rattle.record_layouts.specs.Records.{parts, dealingWords, dealingSize, dealingFaults, dealingLayout, readDealingRules}
 use Rattle.record_layouts.specs.Records.{pairWords, pairSize, pairFaults, pairLayout, verdictWords, verdictSize, verdictFaults, verdictLayout, shareWords, shareSize, shareFaults, shareLayout}
 use Rattle.record_layouts.specs.Answering.{RecordsMarked, WritersRising, DealingInOrder, PairInOrder, VerdictInOrder, ShareInOrder, RecordsAnswering}

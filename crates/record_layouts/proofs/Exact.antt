@@ -2,19 +2,18 @@
 -- of a word that is read.
 use mathlib.Core.Path.{_≡_, refl, sym, ap, _∙_}
 use mathlib.Core.List.{List, [], _∷_, _++_}
-use Prim.Native.Nat.{ℕ, suc, _+_, _*_, _≤_}
+use Prim.Native.Nat.{ℕ, _+_, _*_, _≤_}
 use native.Mathlib.Omega.{arith}
-use lib.Dec.{ltb}
 use lib.ListN.{length, take}
 use borrow.Author.Tests.{eqb-true, ltb-false, not-false}
-use Rattle.base.specs.Rules.{_when_, refusal, Clear, given, answerBy, leftBy}
+use Rattle.base.specs.Rules.{refusal, Clear, given, answerBy, leftBy}
 use Rattle.base.proofs.Rules.{none-applies, not-refused, clear, clear-left, clear-right, clear-both, accepted, written}
 use Rattle.scheme.specs.Setup.{Setup, dim}
-use Rattle.scheme.specs.Calls.{limits, Lent, room, size, beyondField, sizes, inField, matrix}
-use Rattle.scheme.proofs.Calls.{limits-are, limits-clear, size-clear, in-order, accepts}
+use Rattle.scheme.specs.Calls.{limits, Lent, room, sizes, inField, matrix}
+use Rattle.scheme.proofs.Calls.{limits-clear, size-clear, in-order, accepts}
 use Rattle.record_layouts.specs.Words.{bytes, wordAt, Bytes}
-use Rattle.record_layouts.proofs.Words.{Shows, shows-words, length-words, bytes-shown}
-use Rattle.record_layouts.specs.Records.{due, Layout, allWords, writeRules, writeCall, writeLeft, readRules, readCall, markSU, setupWords, setupSize, setupAt, writeSetupRules, readMatrixRules, dealingLayout, dealingLent, pairLayout, verdictLayout, shareLayout}
+use Rattle.record_layouts.proofs.Words.{Shows, shows-words, bytes-shown}
+use Rattle.record_layouts.specs.Records.{due, Layout, allWords, writeRules, writeCall, writeLeft, readCall, markSU, setupWords, setupSize, setupAt, writeSetupRules, readMatrixRules, dealingLayout, dealingLent, pairLayout, verdictLayout, shareLayout}
 use Rattle.record_layouts.specs.Sound.{Rewritten, Exact}
 use Rattle.record_layouts.proofs.Layouts.{Lawful, dealing-lawful, pair-lawful, verdict-lawful, share-lawful}
 use Rattle.record_layouts.proofs.Calls.{setup-read, matrix-room, matrix-as-setup}

@@ -1,19 +1,21 @@
--- What a layout owes, what follows of an accepted writer, and that the layouts of DL, PV, VD and SH owe nothing.
+-- What a layout must obey, what then follows of an accepted writer, and that the layouts of DL, PV, VD and SH obey it.
 -- Lawful: its rules have numbers above 0; where its lists have the lengths needed, its words have its length and are read as the fields that they are of;
 -- and the lists that are read have the lengths needed, and all the words read are those of the fields
+-- Wrote: what an accepted writer says
 use mathlib.Core.Path.{_≡_, refl, sym, ap, _∙_}
 use mathlib.Core.List.{List, [], _∷_, _++_, append-nil}
 use Prim.Native.Nat.{ℕ, suc, _+_, _*_}
 use native.Mathlib.Omega.{arith}
 use lib.Dec.{T}
 use lib.ListN.{length, length-append}
+use lib.Seq.{sets}
 use Rattle.base.specs.Rules.{refusal, Clear}
 use Rattle.base.proofs.Rules.{positive, clear, clear-left, clear-right}
 use Rattle.scheme.specs.Setup.{Setup, dim, Limits}
 use Rattle.scheme.specs.Calls.{limits, room, sizes, inField}
 use Rattle.scheme.proofs.Calls.{limits-are, size-is, size-clear}
 use Rattle.record_layouts.specs.Words.{bytes}
-use Rattle.record_layouts.proofs.Words.{word-of, words-of, length-words, Shows, shows-append, shows-words}
+use Rattle.record_layouts.proofs.Words.{length-bytes, sets-whole, word-of, words-of, length-words, Shows, shows-append, shows-words}
 use Rattle.record_layouts.specs.declared.DealingRecord.{DealingRecord}
 use Rattle.record_layouts.specs.declared.PairRecord.{PairRecord}
 use Rattle.record_layouts.specs.declared.VerdictRecord.{VerdictRecord}
@@ -29,7 +31,6 @@ pub record Lawful (A : Type 0) (L : Layout A) : Type 0 where
   pub full : (S : Setup) (s : List ℕ) → Clear (sizes (L .lists S (L .at S s)))
   pub shows : (S : Setup) (s : List ℕ) → Shows s 1 (L .words (L .at S s))
 
--- what an accepted writer says
 pub record Wrote (A : Type 0) (L : Layout A) (S : Setup) (x : A) (k : ℕ) : Type 0 where
   pub limits : Limits S
   pub lengths : Clear (sizes (L .lists S x))
@@ -50,6 +51,10 @@ wrote L W S x k e =
       own = clear-right lengths own q;
       fills = W .long S x (z .1) ∙ sym (size-is k (L .size S) (z .0));
     }
+
+pub filled : {A : Type 0} (L : Layout A) (W : Lawful A L) (S : Setup) (x : A) (out : List ℕ) → refusal (writeRules L S x (length out)) ≡ 0
+    → sets out 0 (bytes (allWords L x)) ≡ bytes (allWords L x)
+filled L W S x out e = sets-whole out (bytes (allWords L x)) (length-bytes (allWords L x) ∙ wrote L W S x (length out) e .fills)
 
 -- DL
 pub dealing-at : (x : DealingRecord) (g h rest : List ℕ) → dealingAt (bytes (dealingWords x g h) ++ rest) ≡ x

@@ -12,7 +12,8 @@
 -- (what follows the record is not looked at), the refusals that they give, its layout, and its fields as the values of an answer
 -- writeXRules .. readXLeft: the calls of record x; readMatrix is the second reader of SU
 -- dueSetup: the rules of SU up to its length
--- DealingParts: all the fields of DL
+-- DealingParts, parts: all the fields of DL
+-- dealingLent: the buffers lent for its g and h
 -- dueDealing: the rules of what is lent with DL, then those of its mark and its length
 -- paperSetupRead .. paperShareRead: document 01's number and values for each case of a reader's answer
 use mathlib.Core.Bool.{not, _&&_}

@@ -117,7 +117,8 @@ pub fn or_words(standing: u16, s: &[u8], i: usize, count: usize, p: u16) -> u16
     let mut over: u16 = 0;
     let mut k = 0;
     while k < count {
-        if p <= whole(s, i + k) {
+        let at = i + k;
+        if p <= whole(s, at) {
             over = 1;
         }
         k += 1;

@@ -10,7 +10,7 @@ use lib.ListN.{length}
 use Rattle.base.specs.Rules.{orWhen, refusalFrom, refusal}
 use Rattle.base.specs.Matrix.{allBelow}
 use Rattle.base.proofs.Rules.{refusal-after, stays, clear}
-use Rattle.scheme.specs.Setup.{dim, setupOf}
+use Rattle.scheme.specs.Setup.{setupOf}
 use Rattle.scheme.specs.Calls.{beyondField}
 use Rattle.record_layouts.specs.declared.DealingRecord.{DealingRecord}
 use Rattle.record_layouts.specs.Words.{wordsAt}

@@ -1,7 +1,7 @@
 -- A number that the mark or the ten bytes give stays, and one that the limits or the length give; else the record is not cut short, and the rules of the
 -- lent matrix and of its entries decide.
 -- len-is, so-far: the length needed, and the number that stands after the length
-use Prim.Native.Nat.{ℕ, _+_, _*_}
+use Prim.Native.Nat.{_+_, _*_}
 use mathlib.Core.Bool.{not}
 use mathlib.Core.List.{[], _∷_, _++_}
 use mathlib.Core.Path.{_≡_, sym, ap, _∙_}

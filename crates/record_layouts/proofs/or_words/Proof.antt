@@ -23,8 +23,8 @@ abbrev μ-loop : tie.MeasureT-loop
 loop-holds : tie.Need-loop-holds Inv-loop μ-loop
 loop-holds c = (omega arith, sym (every-none _))
 
-add-whole : tie.Need-add-whole Inv-loop μ-loop
-add-whole c = search needs
+add-at : tie.Need-add-at Inv-loop μ-loop
+add-at c = search needs
 
 whole-requires : tie.Need-whole-requires Inv-loop μ-loop
 whole-requires c κs = search needs
@@ -64,7 +64,7 @@ or-words-spec =
     Inv-loop
     μ-loop
     loop-holds
-    add-whole
+    add-at
     whole-requires
     add-k
     loop-less

@@ -1,6 +1,5 @@
 -- The rules of the table, in its order; where nothing is refused, the record's words fill the buffer just up.
--- is, fits: the refusal, and that the words just fill the buffer
-use Prim.Native.Nat.{_*_}
+-- is, none: the refusal, and that there is none
 use mathlib.Core.List.{[]}
 use mathlib.Core.Path.{_≡_, sym, _∙_}
 use native.Mathlib.Omega.{arith}
@@ -9,10 +8,8 @@ use lib.ListN.{length}
 use Rattle.base.specs.Rules.{refusal}
 use Rattle.base.proofs.Rules.{declined, unchanged, accepted, written}
 use Rattle.scheme.specs.Setup.{setupOf}
-use Rattle.record_layouts.specs.Words.{bytes}
-use Rattle.record_layouts.proofs.Words.{length-bytes, sets-whole}
-use Rattle.record_layouts.specs.Records.{writeRules, shareWords, shareLayout}
-use Rattle.record_layouts.proofs.Layouts.{wrote, share-lawful}
+use Rattle.record_layouts.specs.Records.{writeRules, shareLayout}
+use Rattle.record_layouts.proofs.Layouts.{wrote, filled, share-lawful}
 use Rattle.record_writing.proofs.write_share.Statement.{statement}
 use Rattle.record_writing.proofs.write_share.Tie as tie
 
@@ -20,10 +17,9 @@ is : (c : tie.After-share-faults) → let x = c .before .before .before .before 
     c .share-faults .result ≡ refusal (writeRules shareLayout (setupOf (x .s) []) (x .x) (length (x .out .now)))
 is c = cc
 
-fits : (c : tie.Else1) → let x = c .before .before .before .before .before .args in 2 * length (shareWords (x .x)) ≡ length (x .out .now)
-fits c =
-    let x = c .before .before .before .before .before .args in
-    wrote shareLayout share-lawful (setupOf (x .s) []) (x .x) (length (x .out .now)) (sym (is (c .before)) ∙ c .if1 .left) .fills
+none : (c : tie.Else1) → let x = c .before .before .before .before .before .args in
+    refusal (writeRules shareLayout (setupOf (x .s) []) (x .x) (length (x .out .now))) ≡ 0
+none c = sym (is (c .before)) ∙ c .if1 .left
 
 limits-refusal-requires : tie.Need-limits-refusal-requires
 limits-refusal-requires c κs = search needs
@@ -35,15 +31,15 @@ share-faults-requires : tie.Need-share-faults-requires
 share-faults-requires c κs = search needs
 
 returns : tie.Need-returns
-returns c =
-    let e = is (c .before) in
-    (rw (← e) (declined _ _ (c .if1 .taken)), rw (← e) (unchanged _ _ _ (c .if1 .taken)))
+returns c = let e = is (c .before) in (rw (← e) (declined _ _ (c .if1 .taken)), rw (← e) (unchanged _ _ _ (c .if1 .taken)))
 
 slice-aggregate-put-words : tie.Need-slice-aggregate-put-words
 slice-aggregate-put-words c = search needs
 
 put-words-requires : tie.Need-put-words-requires
-put-words-requires c κs = omega (arith, fits (c .before .before))
+put-words-requires c κs =
+    let x = c .before .before .before .before .before .before .before .args in
+    omega (arith, wrote shareLayout share-lawful (setupOf (x .s) []) (x .x) (length (x .out .now)) (none (c .before .before)) .fills)
 
 same-length : tie.Need-same-length
 same-length c = search needs
@@ -52,12 +48,8 @@ returns-2 : tie.Need-returns-2
 returns-2 c =
     let w = c .before .before .before .before .before in
     let x = w .before .before .before .before .before .args in
-    let z = sym (is (w .before)) ∙ w .if1 .left in (
-      accepted _ _ z,
-      written _ _ _ _ z
-          (c .before .before .put-words .ensures
-          ∙ sets-whole (x .out .now) (bytes (shareWords (x .x))) (length-bytes (shareWords (x .x)) ∙ fits w)),
-    )
+    let z = none w in
+    (accepted _ _ z, written _ _ _ _ z (c .before .before .put-words .ensures ∙ filled shareLayout share-lawful (setupOf (x .s) []) (x .x) (x .out .now) z))
 
 pub write-share-spec : {M : Type 1} → statement M
 write-share-spec =
