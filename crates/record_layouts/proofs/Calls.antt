@@ -2,19 +2,20 @@
 use mathlib.Core.Path.{_≡_, refl, sym, ap, _∙_}
 use mathlib.Core.Bool.{Bool, false}
 use mathlib.Core.List.{List, [], _∷_, _++_}
-use Prim.Native.Nat.{ℕ, zero, suc, _*_, _≤_}
+use Prim.Native.Nat.{ℕ, zero, suc, _*_, _≤_, _<_}
 use native.Mathlib.Omega.{arith}
 use native.Mathlib.Nat.{mul-le-mul}
 use lib.Dec.{ltb}
 use lib.ListN.{length}
-use borrow.Author.Tests.{ltb-false}
+use borrow.Author.Tests.{eq-eqb, ne-eqb, lt-ltb, le-ltb, ltb-false}
 use Rattle.base.specs.Rules.{Rule, _when_, refusalFrom, refusal}
-use Rattle.base.proofs.Rules.{clear, clear-left, joined}
+use Rattle.base.proofs.Rules.{clear, clear-left, joined, stays, refusal-after}
 use Rattle.scheme.specs.Setup.{Setup, dim, Limits, IsSetup}
 use Rattle.scheme.specs.Calls.{limits, size, beyondField}
 use Rattle.scheme.proofs.Calls.{limits-are, limits-pos, size-is, size-clear, vec-of, in-order}
+use Rattle.record_layouts.specs.Words.{wordAt}
 use Rattle.record_layouts.proofs.Words.{length-words}
-use Rattle.record_layouts.specs.Records.{due, Layout, setupSize, setupAt, dueSetup, readSetupRules, readMatrixRules, markDL, dealingSize, dealingAt, dealingG, dealingH, dealingFaults, dealingLent, dueDealing, readDealingRules}
+use Rattle.record_layouts.specs.Records.{due, Layout, markSU, setupSize, setupAt, dueSetup, readSetupRules, readMatrixRules, markDL, dealingSize, standingRules, dealingLayout, dealingLent, readDealingRules}
 
 -- a rule that does not hold leaves what stands
 pub passed-over : (r k : ℕ) (l : List Rule) → refusalFrom r ((k when false) ∷ l) ≡ refusalFrom r l
@@ -27,9 +28,38 @@ dim-small S L = omega (arith, L .secret, L .random)
 pub matrix-small : (S : Setup) → Limits S → S .n * dim S ≤ 512
 matrix-small S L = mul-le-mul {n₁ = S .n} {m₁ = dim S} {n₂ = 32} {m₂ = 16} (L .holders .1) (dim-small S L)
 
+-- THE START OF A RECORD: which of the rules of its mark and its length applies
+module _ (mark needed : ℕ) (s : List ℕ) where
+  pub due-cut : length s < 2 → 3 ≡ refusal (due mark needed s)
+  due-cut l = simp (lt-ltb (length s) 2 l)
+
+  pub due-other : 2 ≤ length s → (wordAt s 0 ≡ mark → ⊥) → 8 ≡ refusal (due mark needed s)
+  due-other l n = simp (le-ltb (length s) 2 l, ne-eqb (wordAt s 0) mark n)
+
+  pub due-short : 2 ≤ length s → wordAt s 0 ≡ mark → length s < needed → 3 ≡ refusal (due mark needed s)
+  due-short l e m = simp (le-ltb (length s) 2 l, eq-eqb (wordAt s 0) mark e, lt-ltb (length s) needed m)
+
+  pub due-whole : 2 ≤ length s → wordAt s 0 ≡ mark → needed ≤ length s → 0 ≡ refusal (due mark needed s)
+  due-whole l e m = simp (le-ltb (length s) 2 l, eq-eqb (wordAt s 0) mark e, le-ltb (length s) needed m)
+
 -- SU
-pub setup-whole : (s : List ℕ) → refusal (dueSetup s) ≡ 0 → setupSize (setupAt s) ≤ length s
-setup-whole s e = ltb-false (length s) (setupSize (setupAt s)) (clear (dueSetup s) tt e .1 .1 .1 .1 .1 .1 .1 .0)
+-- a number that the mark or the limits give stays; past them the length, the lent matrix and the entries decide
+module _ (s : List ℕ) (k : ℕ) where
+  abbrev pub afterLimits : List Rule
+  afterLimits = (3 when ltb (length s) (setupSize (setupAt s))) ∷ size k (setupAt s .n * dim (setupAt s)) ∷ beyondField (setupAt s .p) (setupAt s .M) ∷ []
+
+  pub by-due : (a : ℕ) → a ≡ refusal (due markSU 10 s) → (a ≡ 0 → ⊥) → a ≡ refusal (readMatrixRules s k)
+  by-due a e n = e ∙ stays (refusal (due markSU 10 s)) (limits (setupAt s) ++ afterLimits) (λ z. n (e ∙ z))
+
+  pub by-limits : refusal (due markSU 10 s) ≡ 0 → (a : ℕ) → a ≡ refusal (limits (setupAt s)) → (a ≡ 0 → ⊥) → a ≡ refusal (readMatrixRules s k)
+  by-limits d a e n =
+      e ∙ stays (refusal (limits (setupAt s))) afterLimits (λ z. n (e ∙ z))
+      ∙ sym (refusal-after (due markSU 10 s) (limits (setupAt s) ++ afterLimits) (clear (due markSU 10 s) tt d))
+
+  pub past-limits : refusal (due markSU 10 s) ≡ 0 → refusal (limits (setupAt s)) ≡ 0 → refusal (readMatrixRules s k) ≡ refusal afterLimits
+  past-limits d e =
+      refusal-after (due markSU 10 s) (limits (setupAt s) ++ afterLimits) (clear (due markSU 10 s) tt d)
+      ∙ refusal-after (limits (setupAt s)) afterLimits (clear (limits (setupAt s)) tt e)
 
 -- an SU that is not refused is a setup, and it stands there whole
 pub setup-read : (s : List ℕ) → refusal (readSetupRules s) ≡ 0 → IsSetup (setupAt s) × (setupSize (setupAt s) ≤ length s)
@@ -58,14 +88,13 @@ matrix-room s k e =
     (size-is k _ (r .1 .0), ltb-false (length s) (setupSize (setupAt s)) (r .0))
 
 -- DL
-pub dealing-whole : (S : Setup) (s : List ℕ) (j k : ℕ) → refusal (dueDealing S s j k) ≡ 0 → dealingSize S ≤ length s
-dealing-whole S s j k e = ltb-false (length s) (dealingSize S) (in-order S (dealingLent S j k) (due markDL (dealingSize S) s) tt e .own .1 .1 .0)
+pub dealing-whole : (S : Setup) (s : List ℕ) → refusal (due markDL (dealingSize S) s) ≡ 0 → dealingSize S ≤ length s
+dealing-whole S s e = ltb-false (length s) (dealingSize S) (clear (due markDL (dealingSize S) s) tt e .1 .1 .0)
 
 pub parts-room : (S : Setup) (s : List ℕ) (j k : ℕ) → refusal (readDealingRules S s j k) ≡ 0
     → (j ≡ dim S) × (k ≡ dim S) × (dealingSize S ≤ length s)
 parts-room S s j k e =
-    let own = due markDL (dealingSize S) s ++ (beyondField (S .p) (dealingG S s) ∷ beyondField (S .p) (dealingH S s) ∷ dealingFaults S (dealingAt s)) in
-    let r = in-order S (dealingLent S j k) own tt e in
+    let r = in-order S (dealingLent S j k) (standingRules dealingLayout S s) tt e in
     (r .lent .0, r .lent .1 .0, ltb-false (length s) (dealingSize S) (r .own .1 .1 .0))
 
 -- a record without lists: its rules as its reader goes through them

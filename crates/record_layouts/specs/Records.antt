@@ -6,7 +6,7 @@
 -- Layout: a record's mark, its length, its words, its fields as they are read, and what is faulty in them
 -- allWords: a record as one list of words
 -- writeRules, writeCall, writeLeft: the table, the answer and the buffer of the call that writes a record
--- readRules, readCall: the table and the answer of the call that reads it
+-- standingRules: the rules of a record as it stands in a file; readRules, readCall: the table and the answer of the call that reads it
 -- markSU .. markSH: the marks, low byte first
 -- xWords, xSize, xAt, xFaults, xLayout, xValues: of record x its words, its length in bytes, its fields as they stand at the start of a part of a file
 -- (what follows the record is not looked at), the refusals that they give, its layout, and its fields as the values of an answer
@@ -14,7 +14,6 @@
 -- dueSetup: the rules of SU up to its length
 -- DealingParts, parts: all the fields of DL
 -- dealingLent: the buffers lent for its g and h
--- dueDealing: the rules of what is lent with DL, then those of its mark and its length
 -- paperSetupRead .. paperShareRead: document 01's number and values for each case of a reader's answer
 use mathlib.Core.Bool.{not, _&&_}
 use mathlib.Core.List.{List, [], _∷_, _++_}
@@ -73,10 +72,13 @@ writeCall L S x out = answerBy (refusal (writeRules L S x (length out))) (given 
 abbrev pub writeLeft : {A : Type 0} → Layout A → Setup → A → List ℕ → List ℕ
 writeLeft L S x out = leftBy (refusal (writeRules L S x (length out))) (bytes (allWords L x)) out
 
--- READ, from the start of the part s of a file; lent are buffers for the lists
+-- the record that stands at the start of the part s of a file
+abbrev pub standingRules : {A : Type 0} → Layout A → Setup → List ℕ → List Rule
+standingRules L S s = due (L .mark) (L .size S) s ++ (inField (S .p) (L .lists S (L .at S s)) ++ L .faults S (L .at S s))
+
+-- READ it; lent are buffers for the lists
 abbrev pub readRules : {A : Type 0} → Layout A → Setup → List Lent → List ℕ → List Rule
-readRules L S lent s =
-    table S lent (due (L .mark) (L .size S) s ++ (inField (S .p) (L .lists S (L .at S s)) ++ L .faults S (L .at S s)))
+readRules L S lent s = table S lent (standingRules L S s)
 
 abbrev pub readCall : {A : Type 0} → Layout A → Setup → List Lent → List ℕ → List ℕ → Answer
 readCall L S lent s vs = answerBy (refusal (readRules L S lent s)) (given vs)
@@ -187,9 +189,6 @@ writeDealingLeft S x g h out = writeLeft dealingLayout S (parts x g h) out
 -- its dealing number and holder, with g and h into lent buffers of d entries
 abbrev pub dealingLent : Setup → ℕ → ℕ → List Lent
 dealingLent S j k = room j (dim S) ∷ room k (dim S) ∷ []
-
-abbrev pub dueDealing : Setup → List ℕ → ℕ → ℕ → List Rule
-dueDealing S s j k = table S (dealingLent S j k) (due markDL (dealingSize S) s)
 
 abbrev pub readDealingRules : Setup → List ℕ → ℕ → ℕ → List Rule
 readDealingRules S s j k = readRules dealingLayout S (dealingLent S j k) s

@@ -11,7 +11,7 @@ ghost use Rattle.base.specs.Matrix.{allBelow};
 ghost use Rattle.scheme.specs.Setup.{setupOf};
 ghost use Rattle.record_layouts.specs.Words.{bytes, wordAt, wordsAt};
 ghost use Rattle.record_layouts.specs.Records.{due, paramsAt, dealingAt, pairAt, verdictAt, shareAt, dealingFaults, pairFaults, verdictFaults, shareFaults};
-ghost use Rattle.record_layouts.specs.Records.{readSetupRules, readMatrixRules, dueDealing, readDealingRules};
+ghost use Rattle.record_layouts.specs.Records.{standingRules, readSetupRules, readMatrixRules, dealingLayout, readDealingRules};
 use scheme::Params;
 
 // MARKS AND SIZES
@@ -123,7 +123,10 @@ pub fn or_words(standing: u16, s: &[u8], i: usize, count: usize, p: u16) -> u16
         }
         k += 1;
     }
-    base::or_when(standing, 4, over != 0)
+    if standing != 0 {
+        return standing;
+    }
+    if over != 0 { 4 } else { 0 }
 }
 
 // The words from word i on, as many as the lent buffer holds.
@@ -220,8 +223,13 @@ pub fn share_at(s: &[u8]) -> ShareRecord
 pub fn dealing_faults(standing: u16, s: Params, x: DealingRecord) -> u16
     ensures { λ r. ⌜ r ≡ refusalFrom standing (dealingFaults (setupOf s []) x) ⌝ }
 {
-    let a = base::or_when(standing, 5, s.n <= x.holder);
-    base::or_when(a, 9, x.dealing == 0)
+    if standing != 0 {
+        return standing;
+    }
+    if s.n <= x.holder {
+        return 5;
+    }
+    if x.dealing == 0 { 9 } else { 0 }
 }
 
 pub fn pair_faults(standing: u16, s: Params, x: PairRecord) -> u16
@@ -258,9 +266,16 @@ pub fn share_faults(standing: u16, s: Params, x: ShareRecord) -> u16
 pub fn or_due(standing: u16, s: &[u8], mark: u16, needed: usize) -> u16
     ensures { λ r. ⌜ r ≡ refusalFrom standing (due mark needed (now (s .entry))) ⌝ }
 {
-    let a = base::or_when(standing, 3, s.len() < 2);
-    let b = base::or_when(a, 8, word(s, 0) != mark);
-    base::or_when(b, 3, s.len() < needed)
+    if standing != 0 {
+        return standing;
+    }
+    if s.len() < 2 {
+        return 3;
+    }
+    if word(s, 0) != mark {
+        return 8;
+    }
+    if s.len() < needed { 3 } else { 0 }
 }
 
 // SU, its matrix read into one of `room` entries.
@@ -274,41 +289,50 @@ pub fn matrix_refusal(s: &[u8], room: usize) -> u16
     let x = params_at(s);
     let len = x.matrix_len();
     let b = scheme::limits_refusal(x);
-    let c = base::or_when(b, 3, s.len() < 10 + 2 * len);
-    if c != 0 {
-        return c;
+    if b != 0 {
+        return b;
     }
-    or_words(scheme::or_size(0, room, len), s, 5, len, x.p)
+    if s.len() < 10 + 2 * len {
+        return 3;
+    }
+    if room != len {
+        return 3;
+    }
+    or_words(0, s, 5, len, x.p)
 }
 
 // SU: as with a matrix of the length needed.
 pub fn setup_refusal(s: &[u8]) -> u16
     ensures { λ r. ⌜ r ≡ refusal (readSetupRules (now (s .entry))) ⌝ }
 {
-    matrix_refusal(s, params_at(s).matrix_len())
+    let len = params_at(s).matrix_len();
+    matrix_refusal(s, len)
 }
 
-// What is lent with a DL, then its mark and its length.
-fn dealing_due(s: Params, part: &[u8], g_room: usize, h_room: usize) -> u16
-    ensures { λ r. ⌜ r ≡ refusal (dueDealing (setupOf s []) (now (part .entry)) «g_room» «h_room») ⌝ }
+// DL, as it stands in a file.
+pub fn dealing_fault(s: Params, part: &[u8]) -> u16
+    ensures { λ r. ⌜ r ≡ refusal (standingRules dealingLayout (setupOf s []) (now (part .entry))) ⌝ }
 {
     let d = s.dim();
-    let a = scheme::limits_refusal(s);
-    let b = scheme::or_size(a, g_room, d);
-    let c = scheme::or_size(b, h_room, d);
-    or_due(c, part, MARK_DL, 6 + 4 * d)
+    let a = or_due(0, part, MARK_DL, 6 + 4 * d);
+    if a != 0 {
+        return a;
+    }
+    let b = or_words(0, part, 3, d, s.p);
+    let c = or_words(b, part, 3 + d, d, s.p);
+    dealing_faults(c, s, dealing_at(part))
 }
 
 // DL, its g and h read into buffers of so many entries.
 pub fn dealing_refusal(s: Params, part: &[u8], g_room: usize, h_room: usize) -> u16
     ensures { λ r. ⌜ r ≡ refusal (readDealingRules (setupOf s []) (now (part .entry)) «g_room» «h_room») ⌝ }
 {
-    let a = dealing_due(s, part, g_room, h_room);
-    if a != 0 {
-        return a;
-    }
     let d = s.dim();
-    let b = or_words(0, part, 3, d, s.p);
-    let c = or_words(b, part, 3 + d, d, s.p);
-    dealing_faults(c, s, dealing_at(part))
+    let a = scheme::limits_refusal(s);
+    let b = scheme::or_size(a, g_room, d);
+    let c = scheme::or_size(b, h_room, d);
+    if c != 0 {
+        return c;
+    }
+    dealing_fault(s, part)
 }

@@ -132,7 +132,8 @@ pub fn limits_refusal(s: Params) -> u16
     let secret = outside(1, 8, s.l);
     let random = outside(1, 8, s.e);
     let holders = outside(1, 32, s.n);
-    let a = base::or_when(0, 1, field::no_field(s.p));
+    let none = field::no_field(s.p);
+    let a = base::or_when(0, 1, none);
     let b = base::or_when(a, 2, secret);
     let c = base::or_when(b, 2, random);
     base::or_when(c, 2, holders)

@@ -1,15 +1,16 @@
 -- The mark `over` is 0 exactly while every word passed is below p.
 use Prim.Native.Nat.{ℕ, _+_, _-_, _≤_}
-use mathlib.Core.Bool.{Bool, not}
+use mathlib.Core.Bool.{Bool}
 use mathlib.Core.Logic.{⊎-elim}
 use mathlib.Core.Path.{_≡_, sym, ap, _∙_}
 use native.Mathlib.Omega.{arith}
-use borrow.Author.Tests.{le-ltb, lt-ltb}
+use borrow.Author.Tests.{le-ltb, lt-ltb, eq-eqb, ne-eqb}
 use borrow.Author.Needs.{needs}
 use lib.Dec.{eqb, ltb}
-use Rattle.base.specs.Rules.{orWhen}
+use Rattle.base.specs.Matrix.{allBelow}
+use Rattle.base.proofs.Rules.{stands}
 use Rattle.base.specs.Search.{every}
-use Rattle.record_layouts.specs.Words.{wordAt}
+use Rattle.record_layouts.specs.Words.{wordAt, wordsAt}
 use Rattle.record_layouts.proofs.Words.{every-none, passed, failed, below-words}
 use Rattle.record_layouts.proofs.or_words.Statement.{statement}
 use Rattle.record_layouts.proofs.or_words.Tie as tie
@@ -46,16 +47,22 @@ loop-again c =
           (c .if1 .came),
     )
 
-or-when-requires : tie.Need-or-when-requires Inv-loop μ-loop
-or-when-requires c κs = search needs
+-- all words are below p exactly where `over` is 0
+all-below : (c : tie.After-loop Inv-loop μ-loop) → let x = c .before .before .before .args in
+    eqb (c .before .loop .over) 0 ≡ allBelow (x .p) (wordsAt (x .s .now) (x .i) (x .count))
+all-below c =
+    let x = c .before .before .before .args in
+    let e : c .before .loop .k ≡ x .count = omega arith in
+    (rw e at (c .before .loop .inv .1)) ∙ sym (below-words (x .p) (x .s .now) (x .i) (x .count))
 
 returns : tie.Need-returns Inv-loop μ-loop
-returns c =
-    let l = c .before .before in
-    let x = l .before .before .args in
-    let e : l .loop .k ≡ x .count = omega arith in
-    c .or-when .ensures
-    ∙ ap (λ b. orWhen (x .standing) 4 (not b)) ((rw e at (l .loop .inv .1)) ∙ sym (below-words (x .p) (x .s .now) (x .i) (x .count)))
+returns c = stands _ _ _ (c .if2 .taken)
+
+returns-2 : tie.Need-returns-2 Inv-loop μ-loop
+returns-2 c = simp (c .before .if2 .left, ← all-below (c .before .before), ne-eqb _ _ (c .if3 .taken))
+
+returns-3 : tie.Need-returns-3 Inv-loop μ-loop
+returns-3 c = simp (c .before .if2 .left, ← all-below (c .before .before), eq-eqb _ _ (c .if3 .left))
 
 pub or-words-spec : {M : Type 1} → statement M
 or-words-spec =
@@ -69,5 +76,6 @@ or-words-spec =
     add-k
     loop-less
     loop-again
-    or-when-requires
-    returns)
+    returns
+    returns-2
+    returns-3)
