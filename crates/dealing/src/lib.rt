@@ -274,7 +274,7 @@ fn inputs_refusal(s: Params, matrix: &[u16], secrets: &[u16], random: &[u16]) ->
     ensures { λ r. ⌜ r ≡ refusal (limits (setupOf s []) ++ sizes (dealLent (setupOf s (now (matrix .entry))) (now (secrets .entry)) (now (random .entry)))) ⌝ }
 {
     let l = s.l as usize;
-    let a = scheme::setup_refusal(s, matrix.len());
+    let a = scheme::limits_and_matrix(s, matrix.len());
     let b = scheme::or_size(a, secrets.len(), l * l);
     scheme::or_size(b, random.len(), random_len(s))
 }

@@ -32,7 +32,7 @@ fn rows_product(p: u16, d: usize, u: &[u16], i: usize, v: &[u16], j: usize) -> u
 fn pair_value_refusal(s: Params, matrix: &[u16], g: &[u16], to: u16) -> u16
     ensures { λ r. ⌜ r ≡ refusal (pairValueRules (setupOf s (now (matrix .entry))) (now (g .entry)) to) ⌝ }
 {
-    let a = scheme::setup_refusal(s, matrix.len());
+    let a = scheme::limits_and_matrix(s, matrix.len());
     let b = scheme::or_size(a, g.len(), s.dim());
     let c = scheme::or_elements(b, s.p, matrix);
     let d = scheme::or_elements(c, s.p, g);
@@ -55,7 +55,7 @@ pub fn pair_value(s: Params, matrix: &[u16], g: &[u16], to: u16) -> Value
 fn judge_refusal(s: Params, matrix: &[u16], h: &[u16], values: &[u16]) -> u16
     ensures { λ r. ⌜ r ≡ refusal (judgeRules (setupOf s (now (matrix .entry))) (now (h .entry)) (now (values .entry))) ⌝ }
 {
-    let a = scheme::setup_refusal(s, matrix.len());
+    let a = scheme::limits_and_matrix(s, matrix.len());
     let b = scheme::or_size(a, h.len(), s.dim());
     let c = scheme::or_size(b, values.len(), s.n as usize);
     let d = scheme::or_elements(c, s.p, matrix);
@@ -181,7 +181,7 @@ fn rehearse_refusal(s: Params, matrix: &[u16], gs: &[u16], hs: &[u16]) -> u16
     ensures { λ r. ⌜ r ≡ refusal (rehearseRules (setupOf s (now (matrix .entry))) (now (gs .entry)) (now (hs .entry))) ⌝ }
 {
     let len = s.matrix_len();
-    let a = scheme::setup_refusal(s, matrix.len());
+    let a = scheme::limits_and_matrix(s, matrix.len());
     let b = scheme::or_size(a, gs.len(), len);
     let c = scheme::or_size(b, hs.len(), len);
     let d = scheme::or_elements(c, s.p, matrix);

@@ -23,7 +23,7 @@ use scheme::Value;
 fn open_refusal(s: Params, matrix: &[u16], set: u32, shares: &[u16], secrets: &[u16]) -> u16
     ensures { λ r. ⌜ r ≡ refusal (openRules (setupOf s (now (matrix .entry))) set (now (shares .entry)) (now (secrets .entry))) ⌝ }
 {
-    let a = scheme::setup_refusal(s, matrix.len());
+    let a = scheme::limits_and_matrix(s, matrix.len());
     let b = scheme::or_size(a, shares.len(), set_systems::size(set));
     let c = scheme::or_size(b, secrets.len(), s.l as usize);
     let e = scheme::or_elements(c, s.p, matrix);

@@ -165,7 +165,7 @@ fn points_in(field: Field, s: Params, matrix: &mut [u16]) -> Written
 {
     let p = field.order();
     let d = s.dim();
-    let early = scheme::setup_refusal(s, matrix.len());
+    let early = scheme::limits_and_matrix(s, matrix.len());
     let refusal = base::or_when(early, 15, (p as usize) < d + (s.n as usize));
     let answer = written(refusal);
     if refusal == 0 {

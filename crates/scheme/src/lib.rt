@@ -154,7 +154,7 @@ pub fn or_elements(standing: u16, p: u16, s: &[u16]) -> u16
 }
 
 // The limits and the length of a matrix, with which the calls on a matrix begin.
-pub fn setup_refusal(s: Params, len: usize) -> u16
+pub fn limits_and_matrix(s: Params, len: usize) -> u16
     ensures { λ r. ⌜ r ≡ refusal (setupRules (setupOf s []) len) ⌝ }
 {
     let needed = s.matrix_len();

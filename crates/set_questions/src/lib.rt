@@ -149,7 +149,7 @@ fn seek_vector(s: Params, matrix: &[u16], set: u32, q: usize, out: &mut [u16]) -
 fn judge_set_refusal(s: Params, matrix: &[u16], set: u32, position: u16, out: &[u16]) -> u16
     ensures { λ r. ⌜ r ≡ refusal (judgeSetRules (setupOf s (now (matrix .entry))) set position (now (out .entry))) ⌝ }
 {
-    let a = scheme::setup_refusal(s, matrix.len());
+    let a = scheme::limits_and_matrix(s, matrix.len());
     let b = scheme::or_size(a, out.len(), 32);
     let c = scheme::or_elements(b, s.p, matrix);
     let e = base::or_when(c, 5, set_systems::beyond(s.n, set));

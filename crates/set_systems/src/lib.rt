@@ -62,7 +62,7 @@ pub fn row_start(members: &[u16], i: usize, d: usize) -> usize
 pub fn set_refusal(s: Params, matrix: &[u16], set: u32) -> u16
     ensures { λ r. ⌜ r ≡ refusal (setRules (setupOf s (now (matrix .entry))) set) ⌝ }
 {
-    let a = scheme::setup_refusal(s, matrix.len());
+    let a = scheme::limits_and_matrix(s, matrix.len());
     let b = scheme::or_elements(a, s.p, matrix);
     base::or_when(b, 5, beyond(s.n, set))
 }

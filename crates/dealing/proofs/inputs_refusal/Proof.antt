@@ -9,8 +9,8 @@ use Rattle.dealing.proofs.inputs_refusal.Tie as tie
 cast-l : tie.Need-cast-l
 cast-l c = search needs
 
-setup-refusal-requires : tie.Need-setup-refusal-requires
-setup-refusal-requires c κs = search needs
+limits-and-matrix-requires : tie.Need-limits-and-matrix-requires
+limits-and-matrix-requires c κs = search needs
 
 mul-or-size : tie.Need-mul-or-size
 mul-or-size c = let l = c .before .before .before .before .before .args .s .l in omega (arith, mul-le-mul {n₁ = l} {m₁ = l} {n₂ = 65535} {m₂ = 65535} (omega arith) (omega arith))
@@ -32,7 +32,7 @@ inputs-refusal-spec =
     tie.close
     (tie.spec
     cast-l
-    setup-refusal-requires
+    limits-and-matrix-requires
     mul-or-size
     or-size-requires
     random-len-requires

@@ -3,8 +3,8 @@ use borrow.Author.Needs.{needs}
 use Rattle.judging.proofs.pair_value_refusal.Statement.{statement}
 use Rattle.judging.proofs.pair_value_refusal.Tie as tie
 
-setup-refusal-requires : tie.Need-setup-refusal-requires
-setup-refusal-requires c κs = search needs
+limits-and-matrix-requires : tie.Need-limits-and-matrix-requires
+limits-and-matrix-requires c κs = search needs
 
 dim-requires : tie.Need-dim-requires
 dim-requires c κs = search needs
@@ -28,7 +28,7 @@ pub pair-value-refusal-spec : {M : Type 1} → statement M
 pair-value-refusal-spec =
     tie.close
     (tie.spec
-    setup-refusal-requires
+    limits-and-matrix-requires
     dim-requires
     or-size-requires
     or-elements-requires

@@ -6,8 +6,8 @@ use Rattle.judging.proofs.rehearse_refusal.Tie as tie
 matrix-len-requires : tie.Need-matrix-len-requires
 matrix-len-requires c κs = search needs
 
-setup-refusal-requires : tie.Need-setup-refusal-requires
-setup-refusal-requires c κs = search needs
+limits-and-matrix-requires : tie.Need-limits-and-matrix-requires
+limits-and-matrix-requires c κs = search needs
 
 or-size-requires : tie.Need-or-size-requires
 or-size-requires c κs = search needs
@@ -32,7 +32,7 @@ rehearse-refusal-spec =
     tie.close
     (tie.spec
     matrix-len-requires
-    setup-refusal-requires
+    limits-and-matrix-requires
     or-size-requires
     or-size-requires-2
     or-elements-requires

@@ -18,8 +18,8 @@ order-requires c κs = search needs
 dim-requires : tie.Need-dim-requires
 dim-requires c κs = search needs
 
-setup-refusal-requires : tie.Need-setup-refusal-requires
-setup-refusal-requires c κs = search needs
+limits-and-matrix-requires : tie.Need-limits-and-matrix-requires
+limits-and-matrix-requires c κs = search needs
 
 cast-or-when : tie.Need-cast-or-when
 cast-or-when c = search needs
@@ -46,7 +46,7 @@ write-points-requires c κs =
     let S = setupOf (x .s) (x .matrix .now) in
     let D = e .before .before .before .before .before .dim .ensures .0 in
     let P = e .before .before .before .before .before .before .order .ensures ∙ e .before .before .before .before .before .before .before .before .pre in
-    let sizes = e .before .before .before .before .setup-refusal in
+    let sizes = e .before .before .before .before .limits-and-matrix in
     let h : sizes .result ≤ e .before .before .or-when .result = rw (e .before .before .or-when .ensures) (not-lowered _ _ _) in
     let z : sizes .result ≡ 0 = omega (arith, h, e .if1 .taken) in
     let ok = sizes-ok S (sym (sizes .ensures) ∙ z) in (
@@ -69,7 +69,7 @@ returns c =
     let S = setupOf (x .s) (x .matrix .now) in
     let D = e .before .before .before .before .before .dim .ensures .0 in
     let P = e .before .before .before .before .before .before .order .ensures ∙ e .before .before .before .before .before .before .before .before .pre in
-    let sizes = e .before .before .before .before .setup-refusal in
+    let sizes = e .before .before .before .before .limits-and-matrix in
     let late = e .before .before .or-when in
     let w = whole-table S (sizes .result) (late .result) _ (sizes .ensures) D (rw P at (late .ensures)) in
     let h : sizes .result ≤ late .result = rw (late .ensures) (not-lowered _ _ _) in
@@ -85,7 +85,7 @@ returns-2 c =
     let S = setupOf (x .s) (x .matrix .now) in
     let D = c .before .before .before .before .before .dim .ensures .0 in
     let P = c .before .before .before .before .before .before .order .ensures ∙ c .before .before .before .before .before .before .before .before .pre in
-    let sizes = c .before .before .before .before .setup-refusal in
+    let sizes = c .before .before .before .before .limits-and-matrix in
     let late = c .before .before .or-when in
     let w = whole-table S (sizes .result) (late .result) _ (sizes .ensures) D (rw P at (late .ensures)) in
     let h : sizes .result ≤ late .result = rw (late .ensures) (not-lowered _ _ _) in
@@ -97,7 +97,7 @@ points-in-spec =
     (tie.spec
     order-requires
     dim-requires
-    setup-refusal-requires
+    limits-and-matrix-requires
     cast-or-when
     cast-or-when-2
     add-or-when

@@ -3,8 +3,8 @@ use borrow.Author.Needs.{needs}
 use Rattle.set_questions.proofs.judge_set_refusal.Statement.{statement}
 use Rattle.set_questions.proofs.judge_set_refusal.Tie as tie
 
-setup-refusal-requires : tie.Need-setup-refusal-requires
-setup-refusal-requires c κs = search needs
+limits-and-matrix-requires : tie.Need-limits-and-matrix-requires
+limits-and-matrix-requires c κs = search needs
 
 or-size-requires : tie.Need-or-size-requires
 or-size-requires c κs = search needs
@@ -28,7 +28,7 @@ pub judge-set-refusal-spec : {M : Type 1} → statement M
 judge-set-refusal-spec =
     tie.close
     (tie.spec
-    setup-refusal-requires
+    limits-and-matrix-requires
     or-size-requires
     or-elements-requires
     beyond-requires

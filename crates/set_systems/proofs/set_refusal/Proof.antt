@@ -3,8 +3,8 @@ use borrow.Author.Needs.{needs}
 use Rattle.set_systems.proofs.set_refusal.Statement.{statement}
 use Rattle.set_systems.proofs.set_refusal.Tie as tie
 
-setup-refusal-requires : tie.Need-setup-refusal-requires
-setup-refusal-requires c κs = search needs
+limits-and-matrix-requires : tie.Need-limits-and-matrix-requires
+limits-and-matrix-requires c κs = search needs
 
 or-elements-requires : tie.Need-or-elements-requires
 or-elements-requires c κs = search needs
@@ -21,4 +21,4 @@ returns c = cc
 pub set-refusal-spec : {M : Type 1} → statement M
 set-refusal-spec =
     tie.close
-    (tie.spec setup-refusal-requires or-elements-requires beyond-requires or-when-requires returns)
+    (tie.spec limits-and-matrix-requires or-elements-requires beyond-requires or-when-requires returns)

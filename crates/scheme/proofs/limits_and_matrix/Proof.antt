@@ -1,7 +1,7 @@
 -- The rules of the table, in its order.
 use borrow.Author.Needs.{needs}
-use Rattle.scheme.proofs.setup_refusal.Statement.{statement}
-use Rattle.scheme.proofs.setup_refusal.Tie as tie
+use Rattle.scheme.proofs.limits_and_matrix.Statement.{statement}
+use Rattle.scheme.proofs.limits_and_matrix.Tie as tie
 
 matrix-len-requires : tie.Need-matrix-len-requires
 matrix-len-requires c κs = search needs
@@ -15,5 +15,5 @@ or-size-requires c κs = search needs
 returns : tie.Need-returns
 returns c = cc
 
-pub setup-refusal-spec : {M : Type 1} → statement M
-setup-refusal-spec = tie.close (tie.spec matrix-len-requires limits-refusal-requires or-size-requires returns)
+pub limits-and-matrix-spec : {M : Type 1} → statement M
+limits-and-matrix-spec = tie.close (tie.spec matrix-len-requires limits-refusal-requires or-size-requires returns)
