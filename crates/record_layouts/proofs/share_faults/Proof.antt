@@ -19,7 +19,10 @@ or-when-requires-4 : tie.Need-or-when-requires-4
 or-when-requires-4 c κs = search needs
 
 returns : tie.Need-returns
-returns c = rw (eq-eqb _ _ (c .before .before .if1 .taken)) (cc)
+returns c =
+    let t = c .before .before in
+    let x = t .before .before .before .before .before .before .before .before .before .before .before .args in
+    rw (eq-eqb (x .x .dealing) 0 (t .if1 .taken)) (cc)
 
 returns-2 : tie.Need-returns-2
 returns-2 c = rw (ne-eqb _ _ (c .if1 .left)) (cc (passed-over (c .before .before .or-when3 .result) 5 []))
