@@ -12,10 +12,10 @@ use native.Mathlib.Omega.{arith}
 use borrow.Author.Tests.{eqb-true, eq-eqb, not-true, not-false, lt-ltb}
 use lib.Dec.{eqb, ltb}
 use lib.Arith.{digits-lt}
-use lib.ListN.{length, getD, take}
+use lib.ListN.{length, take}
 use lib.Seq.{ext-getD, getD-take, length-take-le}
 use Rattle.base.specs.Choice.{pick}
-use Rattle.base.specs.Rules.{Answer, refusal, refused, given, leftBy}
+use Rattle.base.specs.Rules.{Answer, refusal, given, leftBy}
 use Rattle.base.specs.Sum.{sum}
 use Rattle.base.specs.Search.{every, first, First, found, missing, firstVec, Vec}
 use Rattle.base.specs.Fill.{tab}
@@ -28,8 +28,8 @@ use Rattle.field.specs.Prime.{Prime}
 use Rattle.field.specs.Dot.{at, dot}
 use Rattle.field.proofs.Dot.{dot-comm, dot-ext, dot-mod-right, dot-assoc, row-reads}
 use Rattle.scheme.specs.Setup.{Setup, dim, row}
-use Rattle.scheme.specs.Answers.{accepts, kept, yes, no, inconsistent, paperJudgement}
-use Rattle.scheme.specs.Dealing.{place, dealtEntry, dealt, partG, partH, pairValue, expected, judge, fateOf, outcome, shares}
+use Rattle.scheme.specs.Answers.{accepts, kept, yes, inconsistent, paperJudgement}
+use Rattle.scheme.specs.Dealing.{place, dealtEntry, dealt, partG, partH, pairValue, expected, fateOf, outcome, shares}
 use Rattle.scheme.specs.Sets.{holds, members, rowAt, hasRow, determines}
 use Rattle.scheme.specs.Opening.{gives, opening, openedBy, combine}
 use Rattle.scheme.specs.Calls.{decide, judgeCall, judgeRules, outcomeRules, determinesCall, setRules, openRules, openCall, openLeft, openAnswer, combineRules, combineCall, pairValueRules, dealRules}

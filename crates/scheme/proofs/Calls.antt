@@ -13,7 +13,7 @@ use Rattle.base.specs.Choice.{pick}
 use Rattle.base.specs.Rules.{Rule, _when_, refusal, Clear}
 use Rattle.base.specs.Search.{Vec}
 use Rattle.base.specs.Matrix.{allBelow, Below}
-use Rattle.base.proofs.Rules.{positive, positive-both, clear, none-applies, clear-left, clear-right, clear-both, refusal-after}
+use Rattle.base.proofs.Rules.{positive, positive-both, clear, none-applies, clear-left, clear-right, refusal-after}
 use Rattle.base.proofs.Matrix.{below-by, below-is}
 use Rattle.field.specs.Prime.{Prime}
 use Rattle.field.specs.Fields.{isField}

@@ -4,7 +4,6 @@ use mathlib.Core.Path.{_≡_, sym, ap, _∙_}
 use Prim.Native.Nat.{ℕ, _+_, _*_, _%_, _^_, _≤_, _<_}
 use native.Mathlib.Omega.{arith}
 use lib.Arith.{digits-lt}
-use Rattle.base.specs.Fill.{tab}
 use Rattle.base.specs.Matrix.{entry, flat}
 use Rattle.base.specs.Search.{Vec}
 use Rattle.base.proofs.Fill.{getD-tab, flat-at, tab-vec}

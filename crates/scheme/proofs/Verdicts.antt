@@ -1,15 +1,15 @@
 -- What a judgement and an outcome say: accept is that every value equals what is due, kept is that every verdict is accept.
 use mathlib.Core.Path.{_≡_, refl, ap}
 use mathlib.Core.Bool.{Bool, true, false, not}
-use mathlib.Core.List.{List, []}
+use mathlib.Core.List.{List}
 use Prim.Native.Nat.{ℕ, _≤_, _<_}
 use native.Mathlib.Omega.{arith}
 use lib.Dec.{eqb, ltb}
-use borrow.Author.Tests.{eqb-true, eq-eqb, ltb-false, lt-ltb, le-ltb, not-false}
+use borrow.Author.Tests.{eqb-true, eq-eqb, ltb-false, le-ltb, not-false}
 use Rattle.base.specs.Choice.{pick}
 use Rattle.base.specs.Rules.{Answer}
 use Rattle.base.specs.Search.{first}
-use Rattle.base.proofs.Search.{missing-all, first-missing, first-found}
+use Rattle.base.proofs.Search.{missing-all, first-missing}
 use Rattle.field.specs.Dot.{at}
 use Rattle.scheme.specs.Setup.{Setup}
 use Rattle.scheme.specs.declared.Judgement.{Judgement}

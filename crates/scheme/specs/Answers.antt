@@ -7,7 +7,7 @@
 -- yes, no: a question's answer
 -- undetermined, inconsistent: refusal 6 with the lowest position that has no row, refusal 7
 use mathlib.Core.Bool.{false}
-use mathlib.Core.List.{List, [], _∷_}
+use mathlib.Core.List.{[], _∷_}
 use Prim.Native.Nat.{ℕ}
 use Rattle.base.specs.Rules.{Answer, refused, given}
 use Rattle.scheme.specs.declared.Written.{Written}

@@ -8,7 +8,7 @@
 -- isKept, fateOf, shares: the end of a dealing, from the n verdicts received; outcome: as document 01 has it
 -- rehearse: the dealer's rehearsal on all n parts
 use mathlib.Core.Bool.{Bool, not, _&&_}
-use mathlib.Core.List.{List, []}
+use mathlib.Core.List.{List}
 use Prim.Native.Nat.{ℕ, _+_, _-_, _*_, _/_, _%_}
 use lib.Dec.{eqb, ltb}
 use lib.ListN.{take}

@@ -1,5 +1,4 @@
 -- The rules of the table, in its order: a number that stands stays, and else the first that applies is given.
-use borrow.Author.Needs.{needs}
 use borrow.Author.Tests.{le-leb, lt-leb, eq-eqb, ne-eqb}
 use mathlib.Core.List.{[]}
 use Rattle.base.proofs.Rules.{stays}
