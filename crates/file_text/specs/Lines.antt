@@ -4,6 +4,7 @@
 -- setupWord .. atWord: the words, with the spaces beside them
 -- newline: the line feed that ends each line
 -- item, lastItem: words and a number; the same at the end of a line
+-- line: an item and then a last one
 -- setupLine .. refusedLine: the lines
 -- shareLines: one line per column, from column b on
 -- keptLines: those lines where the dealing was kept, and none where it was aborted
@@ -81,13 +82,16 @@ item words x = words ++ dec x
 abbrev pub lastItem : List ℕ → ℕ → List ℕ
 lastItem words x = words ++ dec x ++ newline
 
+abbrev pub line : List ℕ → ℕ → List ℕ → ℕ → List ℕ
+line first x second y = item first x ++ lastItem second y
+
 -- "Fields: p, ℓ, e, n": setup P L E N
 unfoldable pub setupLine : ℕ → ℕ → ℕ → ℕ → List ℕ
-setupLine p l e n = item setupWord p ++ item space l ++ item space e ++ lastItem space n
+setupLine p l e n = item setupWord p ++ item space l ++ line space e space n
 
 -- "dealing number and holder": dealing D holder I
 unfoldable pub dealingLine : ℕ → ℕ → List ℕ
-dealingLine dealing holder = item dealingWord dealing ++ lastItem holderWord holder
+dealingLine dealing holder = line dealingWord dealing holderWord holder
 
 -- "verdict, with the holder named after `reject`": verdict accept, verdict reject J
 unfoldable pub verdictLine : Judgement → List ℕ
@@ -101,7 +105,7 @@ outcomeLine (Aborted i) = lastItem abortedWords i
 
 -- "column and value, one line per column, none if aborted": share B V
 unfoldable pub shareLine : ℕ → ℕ → List ℕ
-shareLine b v = item shareWord b ++ lastItem space v
+shareLine b v = line shareWord b space v
 
 unfoldable pub shareLines : ℕ → List ℕ → List ℕ
 shareLines b [] = []
@@ -113,7 +117,7 @@ keptLines (Aborted i) shares = []
 
 -- "A refused file prints only `refused N at B`, B the byte where the record starts, or the file's length for 11 and 13"
 unfoldable pub refusedLine : ℕ → ℕ → List ℕ
-refusedLine number at = item refusedWord number ++ lastItem atWord at
+refusedLine number at = line refusedWord number atWord at
 
 -- THE TWO TEXTS
 abbrev pub printed : Setup → (dealing holder : ℕ) → Judgement → Fate → (shares : List ℕ) → List ℕ
