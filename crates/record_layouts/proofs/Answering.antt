@@ -1,32 +1,32 @@
 -- Every call on a record answers where its inputs break nothing, and says so exactly where its number is 0. A writer's table is cleared by its inputs'
--- facts; and a record that can be written reads back, so its reader answers too.
+-- facts, and so is the reader's table of the bytes written.
 use mathlib.Core.Path.{_≡_, refl, sym, ap, _∙_}
 use mathlib.Core.Bool.{Bool, true, false, not, _&&_}
 use mathlib.Core.List.{List, [], _∷_, _++_}
-use Prim.Native.Nat.{ℕ, _+_, _*_}
+use Prim.Native.Nat.{ℕ, _*_}
 use native.Mathlib.Omega.{arith}
 use lib.Dec.{eqb}
-use lib.ListN.{length, replicate, length-replicate}
+use lib.ListN.{length}
 use borrow.Author.Tests.{eqb-true, eq-eqb, ne-eqb, lt-leb}
-use Rattle.base.specs.Rules.{Rule, refusal, Clear, Answer, given, answerBy, leftBy}
-use Rattle.base.proofs.Rules.{none-applies, clear-both, accepted, written}
+use Rattle.base.specs.Rules.{refusal, Clear, Answer, given, answerBy}
+use Rattle.base.proofs.Rules.{accepted}
 use Rattle.scheme.specs.Setup.{Setup, dim, Limits, IsSetup}
-use Rattle.scheme.specs.Calls.{limits, size, elements}
+use Rattle.scheme.specs.Calls.{matrix, room, elements}
 use Rattle.scheme.specs.Answering.{Answers}
-use Rattle.scheme.proofs.Calls.{limits-clear, size-clear, elements-clear}
+use Rattle.scheme.proofs.Calls.{limits-clear, elements-clear, accepts}
 use Rattle.scheme.proofs.Answering.{marked-by}
 use Rattle.record_layouts.specs.Words.{bytes}
 use Rattle.record_layouts.specs.declared.DealingRecord.{DealingRecord}
 use Rattle.record_layouts.specs.declared.PairRecord.{PairRecord}
 use Rattle.record_layouts.specs.declared.VerdictRecord.{VerdictRecord}
 use Rattle.record_layouts.specs.declared.ShareRecord.{ShareRecord}
-use Rattle.record_layouts.specs.Records.{setupWords, dealingWords, pairWords, verdictWords, shareWords, setupSize, dealingSize, room, dealingFaults, pairFaults, verdictFaults, shareFaults}
-use Rattle.record_layouts.specs.Records.{writeSetupRules, readSetupRules, readSetupCall, readMatrixRules, readMatrixCall}
-use Rattle.record_layouts.specs.Records.{writeDealingRules, readDealingRules, readDealingCall}
-use Rattle.record_layouts.specs.Records.{writePairRules, readPairRules, readPairCall, writeVerdictRules, readVerdictRules, readVerdictCall, writeShareRules, readShareRules, readShareCall}
-use Rattle.record_layouts.specs.Answering.{RecordsMarked, DealingInOrder, PairInOrder, VerdictInOrder, ShareInOrder, RecordsAnswering}
-use Rattle.record_layouts.proofs.Calls.{room-clear}
-use Rattle.record_layouts.proofs.ReadBack.{setup-back, dealing-back, pair-back, verdict-back, share-back}
+use Rattle.record_layouts.specs.Records.{writeRules, readRules, setupWords, setupSize, writeSetupRules, readSetupRules, readMatrixRules, setupAt}
+use Rattle.record_layouts.specs.Records.{parts, dealingWords, dealingSize, dealingFaults, dealingLayout, readDealingRules}
+use Rattle.record_layouts.specs.Records.{pairWords, pairSize, pairFaults, pairLayout, verdictWords, verdictSize, verdictFaults, verdictLayout, shareWords, shareSize, shareFaults, shareLayout}
+use Rattle.record_layouts.specs.Answering.{RecordsMarked, WritersRising, DealingInOrder, PairInOrder, VerdictInOrder, ShareInOrder, RecordsAnswering}
+use Rattle.record_layouts.proofs.Layouts.{pair-lawful, verdict-lawful, share-lawful}
+use Rattle.record_layouts.proofs.Calls.{matrix-as-setup}
+use Rattle.record_layouts.proofs.ReadBack.{fair, setup-at, setup-fair, dealing-fair}
 
 -- THE MARK
 pub records-marked : RecordsMarked
@@ -35,57 +35,27 @@ records-marked =
       write-setup = λ S out. marked-by (refusal (writeSetupRules S (length out))) (given []) refl;
       read-setup = λ s. marked-by (refusal (readSetupRules s)) (given _) refl;
       read-matrix = λ s m. marked-by (refusal (readMatrixRules s (length m))) (given []) refl;
-      write-dealing = λ S x g h out. marked-by (refusal (writeDealingRules S x g h (length out))) (given []) refl;
+      write-dealing = λ S x g h out. marked-by (refusal (writeRules dealingLayout S (parts x g h) (length out))) (given []) refl;
       read-dealing = λ S s g h. marked-by (refusal (readDealingRules S s (length g) (length h))) (given _) refl;
-      write-pair = λ S x out. marked-by (refusal (writePairRules S x (length out))) (given []) refl;
-      read-pair = λ S s. marked-by (refusal (readPairRules S s)) (given _) refl;
-      write-verdict = λ S x out. marked-by (refusal (writeVerdictRules S x (length out))) (given []) refl;
-      read-verdict = λ S s. marked-by (refusal (readVerdictRules S s)) (given _) refl;
-      write-share = λ S x out. marked-by (refusal (writeShareRules S x (length out))) (given []) refl;
-      read-share = λ S s. marked-by (refusal (readShareRules S s)) (given _) refl;
+      write-pair = λ S x out. marked-by (refusal (writeRules pairLayout S x (length out))) (given []) refl;
+      read-pair = λ S s. marked-by (refusal (readRules pairLayout S [] s)) (given _) refl;
+      write-verdict = λ S x out. marked-by (refusal (writeRules verdictLayout S x (length out))) (given []) refl;
+      read-verdict = λ S s. marked-by (refusal (readRules verdictLayout S [] s)) (given _) refl;
+      write-share = λ S x out. marked-by (refusal (writeRules shareLayout S x (length out))) (given []) refl;
+      read-share = λ S s. marked-by (refusal (readRules shareLayout S [] s)) (given _) refl;
     }
+
+-- THE LOWEST NUMBER
+pub writers-rising : WritersRising
+writers-rising =
+    record { setup = λ S k. tt; dealing = λ S x k. tt; pair = λ S x k. tt; verdict = λ S x k. tt; share = λ S x k. tt }
 
 -- INPUTS THAT BREAK NOTHING
 pub answers-by : (r : ℕ) (vs : List ℕ) → r ≡ 0 → Answers (answerBy r (given vs))
 answers-by r vs e = sym (ap (λ (a : Answer). a .answered) (accepted r (given vs) e))
 
-limits-pass : (S : Setup) → Limits S → Clear (limits S)
-limits-pass S L = let c = limits-clear S L in (c .field, (c .secret, (c .random, (c .holders, tt))))
-
--- the writers' tables
-setup-passes : (S : Setup) (k : ℕ) → IsSetup S → k ≡ setupSize S → refusal (writeSetupRules S k) ≡ 0
-setup-passes S k ok e =
-    let own : List Rule = size (S .M) (S .n * dim S) ∷ room k (setupSize S) ∷ elements (S .p) (S .M) ∷ [] in
-    none-applies (limits S ++ own)
-    (clear-both (limits S) own (limits-pass S (ok .limits))
-    (size-clear (S .M) _ (ok .matrix .size), (room-clear k (setupSize S) e, (elements-clear (S .p) _ (S .M) (ok .matrix), tt))))
-
-dealing-passes : (S : Setup) (x : DealingRecord) (g h : List ℕ) (k : ℕ) → Limits S → DealingInOrder S x g h → k ≡ dealingSize S
-    → refusal (writeDealingRules S x g h k) ≡ 0
-dealing-passes S x g h k L w e =
-    let own : List Rule = size g (dim S) ∷ size h (dim S) ∷ room k (dealingSize S) ∷ elements (S .p) g ∷ elements (S .p) h ∷ dealingFaults S x in
-    none-applies (limits S ++ own)
-    (clear-both (limits S) own (limits-pass S L) (
-      size-clear g _ (w .row .size),
-      (
-        size-clear h _ (w .column .size),
-        (
-          room-clear k (dealingSize S) e,
-          (
-            elements-clear (S .p) _ g (w .row),
-            (
-              elements-clear (S .p) _ h (w .column),
-              (lt-leb (S .n) (x .holder) (w .holder), (ne-eqb (x .dealing) 0 (λ z. omega (arith, w .dealing, z)), tt)),
-            ),
-          ),
-        ),
-      ),
-    ))
-
--- of a record without lists
-plain-passes : (S : Setup) (k needed : ℕ) (own : List Rule) → Limits S → Clear own → k ≡ needed → refusal (limits S ++ room k needed ∷ own) ≡ 0
-plain-passes S k needed own L c e =
-    none-applies (limits S ++ room k needed ∷ own) (clear-both (limits S) (room k needed ∷ own) (limits-pass S L) (room-clear k needed e, c))
+dealing-clear : (S : Setup) (x : DealingRecord) (g h : List ℕ) → DealingInOrder S x g h → Clear (dealingFaults S x)
+dealing-clear S x g h w = (lt-leb (S .n) (x .holder) (w .holder), (ne-eqb (x .dealing) 0 (λ z. omega (arith, w .dealing, z)), tt))
 
 pair-clear : (S : Setup) (x : PairRecord) → PairInOrder S x → Clear (pairFaults S x)
 pair-clear S x w = (
@@ -111,44 +81,37 @@ share-clear S x w =
     go true e = ap not (eq-eqb (x .column) 0 (w .combination (eqb-true (x .dealing) 0 e)))
     go false e = refl
 
--- what a writer leaves in a lent buffer reads back
-reads : (r : ℕ) (new old rest vs : List ℕ) (call : List ℕ → Answer) → r ≡ 0 → call (leftBy r new old ++ rest) ≡ given vs → Answers (call (new ++ rest))
-reads r new old rest vs call e b = ap (λ (a : Answer). a .answered) (ap (λ (l : List ℕ). call (l ++ rest)) (written r new old new e refl) ∙ b)
+setup-passes : (S : Setup) (rest : List ℕ) → IsSetup S → refusal (readSetupRules (bytes (setupWords S) ++ rest)) ≡ 0
+setup-passes S rest ok = setup-fair S rest (limits-clear S (ok .limits)) (ok .matrix .size) (elements-clear (S .p) _ (S .M) (ok .matrix))
 
 pub records-answering : RecordsAnswering
 records-answering =
     record {
-      write-setup = λ S out ok e. answers-by (refusal (writeSetupRules S (length out))) [] (setup-passes S (length out) ok e);
-      read-setup = λ S rest ok.
-          let out : List ℕ = replicate (setupSize S) 0 in
-          let z = setup-passes S (length out) ok (length-replicate (setupSize S) 0) in
-          reads (refusal (writeSetupRules S (length out))) (bytes (setupWords S)) out rest _ readSetupCall z
-          (setup-back S out [] rest (sym (accepted _ (given []) z)) .numbers);
+      write-setup = λ S out ok e.
+          answers-by (refusal (writeSetupRules S (length out))) [] (accepts S (matrix S ∷ room (length out) (setupSize S) ∷ []) [] (ok .limits) (ok .matrix, (e, tt)) tt);
+      read-setup = λ S rest ok. answers-by (refusal (readSetupRules (bytes (setupWords S) ++ rest))) _ (setup-passes S rest ok);
       read-matrix = λ S rest m ok e.
-          let out : List ℕ = replicate (setupSize S) 0 in
-          let z = setup-passes S (length out) ok (length-replicate (setupSize S) 0) in
-          reads (refusal (writeSetupRules S (length out))) (bytes (setupWords S)) out rest [] (λ s. readMatrixCall s m) z
-          (setup-back S out [] rest (sym (accepted _ (given []) z)) .matrix m e);
-      write-dealing = λ S x g h out L w e. answers-by (refusal (writeDealingRules S x g h (length out))) [] (dealing-passes S x g h (length out) L w e);
+          let s : List ℕ = bytes (setupWords S) ++ rest in
+          answers-by (refusal (readMatrixRules s (length m))) []
+          (matrix-as-setup s (length m) (e ∙ ap (λ (T : Setup). T .n * dim T) (sym (setup-at S rest (ok .matrix .size)))) ∙ setup-passes S rest ok);
+      write-dealing = λ S x g h out L w e.
+          answers-by (refusal (writeRules dealingLayout S (parts x g h) (length out))) []
+          (accepts S (room (length out) (dealingSize S) ∷ elements g (dim S) ∷ elements h (dim S) ∷ []) (dealingFaults S x) L
+          (e, (w .row, (w .column, tt))) (dealing-clear S x g h w));
       read-dealing = λ S x g h rest a b L w i j.
-          let out : List ℕ = replicate (dealingSize S) 0 in
-          let z = dealing-passes S x g h (length out) L w (length-replicate (dealingSize S) 0) in
-          reads (refusal (writeDealingRules S x g h (length out))) (bytes (dealingWords x g h)) out rest _ (λ s. readDealingCall S s a b) z
-          (dealing-back S x g h out [] rest (sym (accepted _ (given []) z)) .numbers a b i j);
-      write-pair = λ S x out L w e. answers-by (refusal (writePairRules S x (length out))) [] (plain-passes S (length out) 10 (pairFaults S x) L (pair-clear S x w) e);
+          answers-by (refusal (readDealingRules S (bytes (dealingWords x g h) ++ rest) (length a) (length b))) _
+          (dealing-fair S x g h rest (w .row .size) (w .column .size) (limits-clear S L)
+          (elements-clear (S .p) _ g (w .row), (elements-clear (S .p) _ h (w .column), dealing-clear S x g h w)) (length a) (length b) i j);
+      write-pair = λ S x out L w e.
+          answers-by (refusal (writeRules pairLayout S x (length out))) [] (accepts S (room (length out) pairSize ∷ []) (pairFaults S x) L (e, tt) (pair-clear S x w));
       read-pair = λ S x rest L w.
-          let out : List ℕ = replicate 10 0 in
-          let z = plain-passes S 10 10 (pairFaults S x) L (pair-clear S x w) refl in
-          reads (refusal (writePairRules S x 10)) (bytes (pairWords x)) out rest _ (readPairCall S) z (pair-back S x out [] rest (sym (accepted _ (given []) z)));
+          answers-by (refusal (readRules pairLayout S [] (bytes (pairWords x) ++ rest))) _ (fair pairLayout pair-lawful S x rest [] L tt (pair-clear S x w) tt);
       write-verdict = λ S x out L w e.
-          answers-by (refusal (writeVerdictRules S x (length out))) [] (plain-passes S (length out) 8 (verdictFaults S x) L (verdict-clear S x w) e);
+          answers-by (refusal (writeRules verdictLayout S x (length out))) [] (accepts S (room (length out) verdictSize ∷ []) (verdictFaults S x) L (e, tt) (verdict-clear S x w));
       read-verdict = λ S x rest L w.
-          let out : List ℕ = replicate 8 0 in
-          let z = plain-passes S 8 8 (verdictFaults S x) L (verdict-clear S x w) refl in
-          reads (refusal (writeVerdictRules S x 8)) (bytes (verdictWords x)) out rest _ (readVerdictCall S) z (verdict-back S x out [] rest (sym (accepted _ (given []) z)));
-      write-share = λ S x out L w e. answers-by (refusal (writeShareRules S x (length out))) [] (plain-passes S (length out) 10 (shareFaults S x) L (share-clear S x w) e);
+          answers-by (refusal (readRules verdictLayout S [] (bytes (verdictWords x) ++ rest))) _ (fair verdictLayout verdict-lawful S x rest [] L tt (verdict-clear S x w) tt);
+      write-share = λ S x out L w e.
+          answers-by (refusal (writeRules shareLayout S x (length out))) [] (accepts S (room (length out) shareSize ∷ []) (shareFaults S x) L (e, tt) (share-clear S x w));
       read-share = λ S x rest L w.
-          let out : List ℕ = replicate 10 0 in
-          let z = plain-passes S 10 10 (shareFaults S x) L (share-clear S x w) refl in
-          reads (refusal (writeShareRules S x 10)) (bytes (shareWords x)) out rest _ (readShareCall S) z (share-back S x out [] rest (sym (accepted _ (given []) z)));
+          answers-by (refusal (readRules shareLayout S [] (bytes (shareWords x) ++ rest))) _ (fair shareLayout share-lawful S x rest [] L tt (share-clear S x w) tt);
     }

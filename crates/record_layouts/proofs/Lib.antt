@@ -1,4 +1,5 @@
 pub mod Words
+pub mod Layouts
 pub mod Calls
 pub mod ReadBack
 pub mod Exact

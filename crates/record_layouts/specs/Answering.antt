@@ -1,6 +1,7 @@
 -- When a call that writes or reads a record answers (document 01, "What a call gives when it declines"), for each call in the order of Records.antt;
 -- proofs/Answering.antt proves it.
 -- RecordsMarked: every call's answer says that the call answered exactly where the refusal's number is 0
+-- WritersRising: the numbers of every writer's table rise, so that the first that applies is the lowest
 -- DealingInOrder .. ShareInOrder: fields that break nothing
 -- RecordsAnswering: a writer whose inputs break nothing answers; so does a reader on a part of a file that begins with the bytes of such a record,
 -- whatever follows them
@@ -8,6 +9,7 @@ use mathlib.Core.Path.{_≡_}
 use mathlib.Core.List.{List, _++_}
 use Prim.Native.Nat.{ℕ, _*_, _≤_, _<_}
 use lib.ListN.{length}
+use Rattle.base.specs.Rules.{Rising}
 use Rattle.base.specs.Search.{Vec}
 use Rattle.scheme.specs.Setup.{Setup, dim, Limits, IsSetup}
 use Rattle.scheme.specs.Answering.{Marked, Answers}
@@ -17,6 +19,7 @@ use Rattle.record_layouts.specs.declared.PairRecord.{PairRecord}
 use Rattle.record_layouts.specs.declared.VerdictRecord.{VerdictRecord}
 use Rattle.record_layouts.specs.declared.ShareRecord.{ShareRecord}
 use Rattle.record_layouts.specs.Records.{setupWords, dealingWords, pairWords, verdictWords, shareWords, setupSize, dealingSize, pairSize, verdictSize, shareSize}
+use Rattle.record_layouts.specs.Records.{writeRules, writeSetupRules, DealingParts, dealingLayout, pairLayout, verdictLayout, shareLayout}
 use Rattle.record_layouts.specs.Records.{writeSetupCall, readSetupCall, readMatrixCall, writeDealingCall, readDealingCall, writePairCall, readPairCall, writeVerdictCall, readVerdictCall, writeShareCall, readShareCall}
 
 -- THE MARK OF AN ANSWER, whatever the call is given
@@ -32,6 +35,14 @@ pub record RecordsMarked : Type 0 where
   pub read-verdict : (S : Setup) (s : List ℕ) → Marked (readVerdictCall S s)
   pub write-share : (S : Setup) (x : ShareRecord) (out : List ℕ) → Marked (writeShareCall S x out)
   pub read-share : (S : Setup) (s : List ℕ) → Marked (readShareCall S s)
+
+-- THE LOWEST NUMBER: "in a call the lowest number that applies is given"
+pub record WritersRising : Type 0 where
+  pub setup : (S : Setup) (k : ℕ) → Rising (writeSetupRules S k)
+  pub dealing : (S : Setup) (x : DealingParts) (k : ℕ) → Rising (writeRules dealingLayout S x k)
+  pub pair : (S : Setup) (x : PairRecord) (k : ℕ) → Rising (writeRules pairLayout S x k)
+  pub verdict : (S : Setup) (x : VerdictRecord) (k : ℕ) → Rising (writeRules verdictLayout S x k)
+  pub share : (S : Setup) (x : ShareRecord) (k : ℕ) → Rising (writeRules shareLayout S x k)
 
 -- RECORDS THAT BREAK NOTHING
 -- "Dealing numbers are 1 to 65535": a field of 16 bits is no more

@@ -3,11 +3,17 @@ use borrow.Author.Needs.{needs}
 use Rattle.record_layouts.proofs.dealing_due.Statement.{statement}
 use Rattle.record_layouts.proofs.dealing_due.Tie as tie
 
-lent-dealing-requires : tie.Need-lent-dealing-requires
-lent-dealing-requires c κs = search needs
-
 dim-requires : tie.Need-dim-requires
 dim-requires c κs = search needs
+
+limits-refusal-requires : tie.Need-limits-refusal-requires
+limits-refusal-requires c κs = search needs
+
+or-size-requires : tie.Need-or-size-requires
+or-size-requires c κs = search needs
+
+or-size-requires-2 : tie.Need-or-size-requires-2
+or-size-requires-2 c κs = search needs
 
 mul-or-due : tie.Need-mul-or-due
 mul-or-due c = search needs
@@ -24,4 +30,12 @@ returns c = cc
 pub dealing-due-spec : {M : Type 1} → statement M
 dealing-due-spec =
     tie.close
-    (tie.spec lent-dealing-requires dim-requires mul-or-due add-or-due or-due-requires returns)
+    (tie.spec
+    dim-requires
+    limits-refusal-requires
+    or-size-requires
+    or-size-requires-2
+    mul-or-due
+    add-or-due
+    or-due-requires
+    returns)

@@ -5,7 +5,7 @@ use native.Mathlib.Nat.{add-zero}
 use native.Mathlib.Omega.{arith}
 use borrow.Author.Needs.{needs}
 use lib.Seq.{sets}
-use lib.ListN.{drop, drop-of-length-le, length}
+use lib.ListN.{drop, drop-of-length-le, length, length-set}
 use Rattle.record_layouts.specs.Words.{bytes}
 use Rattle.record_layouts.proofs.Words.{put-turn}
 use Rattle.record_layouts.proofs.put_words.Statement.{statement}
@@ -19,19 +19,40 @@ abbrev μ-loop : tie.MeasureT-loop
 μ-loop out₀ i ws k₀ out k = length ws - k
 
 loop-holds : tie.Need-loop-holds Inv-loop μ-loop
-loop-holds c = (omega arith, refl, rw (add-zero (c .before .before .args .i)))
+loop-holds c = (omega arith, refl, rw (add-zero (c .args .i)))
 
-add-put : tie.Need-add-put Inv-loop μ-loop
-add-put c = search needs
+mul-x : tie.Need-mul-x Inv-loop μ-loop
+mul-x c = search needs
 
-mul-put : tie.Need-mul-put Inv-loop μ-loop
-mul-put c = search needs
+shared-slice-read-x : tie.Need-shared-slice-read-x Inv-loop μ-loop
+shared-slice-read-x c = search needs
 
-shared-slice-read-put : tie.Need-shared-slice-read-put Inv-loop μ-loop
-shared-slice-read-put c = search needs
+cast-low : tie.Need-cast-low Inv-loop μ-loop
+cast-low c = search needs
 
-put-requires : tie.Need-put-requires Inv-loop μ-loop
-put-requires c κs = search needs
+cast-high : tie.Need-cast-high Inv-loop μ-loop
+cast-high c = omega (arith, c .shared-slice-known .given (c .before .before .loop .k))
+
+add-out : tie.Need-add-out Inv-loop μ-loop
+add-out c = search needs
+
+mul-out : tie.Need-mul-out Inv-loop μ-loop
+mul-out c = search needs
+
+slice-write-out : tie.Need-slice-write-out Inv-loop μ-loop
+slice-write-out c = search needs
+
+add-out-2 : tie.Need-add-out-2 Inv-loop μ-loop
+add-out-2 c = search needs
+
+mul-out-2 : tie.Need-mul-out-2 Inv-loop μ-loop
+mul-out-2 c = search needs
+
+add-out-3 : tie.Need-add-out-3 Inv-loop μ-loop
+add-out-3 c = search needs
+
+slice-write-out-2 : tie.Need-slice-write-out-2 Inv-loop μ-loop
+slice-write-out-2 c = simp length-set (omega arith)
 
 add-k : tie.Need-add-k Inv-loop μ-loop
 add-k c = search needs
@@ -41,11 +62,10 @@ loop-less c = search needs
 
 loop-again : tie.Need-loop-again Inv-loop μ-loop
 loop-again c =
-    let l = c .before .before .before .before .before .before in
-    let x = l .before .before .before .args in
-    let k = l .loop .k in
-    let h : k < length (x .ws .now) = omega arith in
-    (omega arith, omega arith, rw (c .before .before .put .ensures) (put-turn (l .loop .out) (x .ws .now) (x .i) k h ∙ l .loop .inv .2))
+    let l = c .before .before in
+    let x = l .before .args in
+    let h : l .loop .k < length (x .ws .now) = omega arith in
+    (omega arith, simp length-set (omega arith), put-turn (l .loop .out) (x .ws .now) (x .i) (l .loop .k) h ∙ l .loop .inv .2)
 
 same-length : tie.Need-same-length Inv-loop μ-loop
 same-length c = search needs
@@ -53,7 +73,7 @@ same-length c = search needs
 returns : tie.Need-returns Inv-loop μ-loop
 unfolding bytes
 returns c =
-    let x = c .before .before .before .before .args in
+    let x = c .before .before .args in
     let h : length (x .ws .now) ≤ c .before .loop .k = omega arith in
     rw (drop-of-length-le (x .ws .now) h, bytes) at (c .before .loop .inv .2)
 
@@ -64,10 +84,17 @@ put-words-spec =
     Inv-loop
     μ-loop
     loop-holds
-    add-put
-    mul-put
-    shared-slice-read-put
-    put-requires
+    mul-x
+    shared-slice-read-x
+    cast-low
+    cast-high
+    add-out
+    mul-out
+    slice-write-out
+    add-out-2
+    mul-out-2
+    add-out-3
+    slice-write-out-2
     add-k
     loop-less
     loop-again

@@ -1,5 +1,8 @@
--- The rules of the table, in its order.
+-- The rules of the table, in its order; the column is looked at where the dealing is 0.
+use mathlib.Core.List.{[]}
 use borrow.Author.Needs.{needs}
+use borrow.Author.Tests.{eq-eqb, ne-eqb}
+use Rattle.record_layouts.proofs.Calls.{passed-over}
 use Rattle.record_layouts.proofs.share_faults.Statement.{statement}
 use Rattle.record_layouts.proofs.share_faults.Tie as tie
 
@@ -12,14 +15,14 @@ or-when-requires-2 c κs = search needs
 or-when-requires-3 : tie.Need-or-when-requires-3
 or-when-requires-3 c κs = search needs
 
-combination-elsewhere-requires : tie.Need-combination-elsewhere-requires
-combination-elsewhere-requires c κs = search needs
-
 or-when-requires-4 : tie.Need-or-when-requires-4
 or-when-requires-4 c κs = search needs
 
 returns : tie.Need-returns
-returns c = cc
+returns c = rw (eq-eqb _ _ (c .before .before .if1 .taken)) (cc)
+
+returns-2 : tie.Need-returns-2
+returns-2 c = rw (ne-eqb _ _ (c .if1 .left)) (cc (passed-over (c .before .before .or-when3 .result) 5 []))
 
 pub share-faults-spec : {M : Type 1} → statement M
 share-faults-spec =
@@ -28,6 +31,6 @@ share-faults-spec =
     or-when-requires
     or-when-requires-2
     or-when-requires-3
-    combination-elsewhere-requires
     or-when-requires-4
-    returns)
+    returns
+    returns-2)
