@@ -8,11 +8,11 @@ use lib.Dec.{eqb}
 use lib.ListN.{getD}
 use Rattle.base.specs.Search.{every}
 use Rattle.base.proofs.Search.{every-step}
-use Rattle.file_reading.specs.File.{complete}
-use Rattle.file_reading.proofs.Steps.{every-fails}
+use Rattle.file_records.specs.Received.{complete}
+use Rattle.file_records.proofs.Reading.{every-fails}
 use borrow.Author.Needs.{needs}
-use Rattle.file_reading.proofs.complete.Statement.{statement}
-use Rattle.file_reading.proofs.complete.Tie as tie
+use Rattle.file_records.proofs.complete.Statement.{statement}
+use Rattle.file_records.proofs.complete.Tie as tie
 
 abbrev Inv-loop : tie.InvT-loop
 Inv-loop n seen i₀ i = (i ≤ n) × (every i (λ k. not (eqb (getD seen k 0) 0)) ≡ true)

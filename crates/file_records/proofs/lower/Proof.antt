@@ -6,10 +6,10 @@ use native.Mathlib.Omega.{arith}
 use lib.ListN.{length, getD, replicate, length-set}
 use Rattle.base.specs.Fill.{filled}
 use Rattle.base.proofs.Fill.{filled-none, filled-store}
-use Rattle.file_reading.proofs.Steps.{begins}
+use Rattle.file_records.proofs.Reading.{begins}
 use borrow.Author.Needs.{needs}
-use Rattle.file_reading.proofs.lower.Statement.{statement}
-use Rattle.file_reading.proofs.lower.Tie as tie
+use Rattle.file_records.proofs.lower.Statement.{statement}
+use Rattle.file_records.proofs.lower.Tie as tie
 
 abbrev Inv-loop : tie.InvT-loop
 Inv-loop n seen out₀ i₀ out i = (i ≤ n) × (length out ≡ 32) × (out ≡ filled (λ k. getD seen k 0 - 1) i out₀)
