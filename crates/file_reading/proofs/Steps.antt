@@ -10,18 +10,21 @@ use lib.ListN.{length, take, drop, replicate, length-drop}
 use lib.Seq.{getD-drop, getD-take, length-take-le}
 use Rattle.base.specs.Choice.{pick}
 use Rattle.base.specs.Rules.{Rule, refusal}
-use Rattle.base.specs.Search.{Vec}
+use Rattle.base.specs.Search.{first, Vec}
 use Rattle.base.proofs.Fill.{tab-ext, tab-is}
 use Rattle.field.specs.Fields.{isField}
 use Rattle.field.proofs.Fields.{five-elim, field-five}
 use Rattle.field.specs.Dot.{at}
 use Rattle.scheme.specs.declared.Params.{Params}
+use Rattle.scheme.specs.declared.Judgement.{Judgement}
 use Rattle.scheme.specs.declared.Fate.{Fate}
 use Rattle.scheme.specs.declared.Fate.the-variants.{Kept, Aborted}
 use Rattle.scheme.specs.Setup.{Setup, dim, Limits, IsSetup, setupOf}
 use Rattle.scheme.specs.Calls.{beyondField}
-use Rattle.scheme.specs.Dealing.{isKept, fateOf}
+use Rattle.scheme.specs.Answers.{paperFate}
+use Rattle.scheme.specs.Dealing.{saidReject, isKept, fateOf}
 use Rattle.scheme.proofs.Calls.{limits-pos, in-order, by-own, vec-of}
+use Rattle.scheme.proofs.Verdicts.{kept-means}
 use Rattle.record_layouts.specs.declared.DealingRecord.{DealingRecord}
 use Rattle.record_layouts.specs.Words.{wordAt, wordsAt}
 use Rattle.record_layouts.proofs.Words.{length-words, getD-words}
@@ -29,12 +32,15 @@ use Rattle.record_layouts.specs.Records.{markSU, setupAt, setupSize, dealingSiz
 use Rattle.record_layouts.proofs.Calls.{setup-read, dim-small, matrix-small}
 use Rattle.file_records.specs.declared.Seen.{Seen}
 use Rattle.file_records.specs.Received.{readReceived, complete, lowered}
-use Rattle.file_records.specs.Inner.{sentFault, sentByte, Whole}
+use Rattle.file_records.specs.declared.Sent.{Sent}
+use Rattle.file_records.specs.declared.Lists.{Lists}
+use Rattle.file_records.specs.Inner.{sentFault, sentByte, Sends, Whole, Holds}
+use Rattle.file_records.proofs.Reading.{received-bounded, sent-vec}
 use Rattle.file_reading.specs.declared.Reading.{Reading}
 use Rattle.file_reading.specs.declared.Told.{Told}
-use Rattle.file_reading.specs.Contents.{Contents, verdictOf, judgement}
-use Rattle.file_reading.specs.File.{FileRead, refusedAt, whole, setupFault, dealingFault, headOf, contentsOf, ofContents, ofEnd, orRefused, ofReceived, ofDealing, readFile, eight, told}
-use Rattle.file_reading.specs.Inner.{partOf, Fair, Tells}
+use Rattle.file_reading.specs.Contents.{Contents, verdictOf, judgement, fate, keptShares}
+use Rattle.file_reading.specs.File.{FileRead, refusedAt, whole, setupFault, dealingFault, headOf, contentsOf, ofContents, ofEnd, orRefused, ofReceived, ofDealing, readFile, eight, paramsOf, told}
+use Rattle.file_reading.specs.Inner.{partOf, Fair, contentsIn, Tells}
 
 -- A REFUSAL IS NO CONTENTS
 isWhole : FileRead → Bool
@@ -257,3 +263,72 @@ shares-read s =
     let w : take (S .l) (dealingG S t) ≡ wordsAt s (8 + S .n * dim S) (S .l) =
     take-words t 3 (S .l) (dim S) (omega arith) ∙ words-behind s (setupSize S) (5 + S .n * dim S) 3 (S .l) (omega arith) ∙ ap (λ (i : ℕ). wordsAt s i (S .l)) (omega arith) in
     rw (w, length-words s (8 + S .n * dim S) (S .l)) (ap (λ (l : List ℕ). wordsAt s (8 + S .n * dim S) (S .l) ++ l) (drop-zeros (S .l) 8))
+
+-- ALL RECORDS, by what was received
+module _ (s : List ℕ) (F : Fair s) (r : Sent)
+    (W : Sends (setupAt s .n) (length s) (readReceived (headOf (setupAt s) (dealingAt (partOf s))) s (setupSize (setupAt s) + dealingSize (setupAt s))) r) where
+  abbrev S : Setup
+  S = setupAt s
+
+  abbrev st : Seen
+  st = readReceived (headOf (setupAt s) (dealingAt (partOf s))) s (setupSize (setupAt s) + dealingSize (setupAt s))
+
+  abbrev end : FileRead
+  end = ofContents (contentsIn s (lowered (setupAt s .n) (st .values)) (lowered (setupAt s .n) (st .verdicts))) (length s)
+
+  all-read : orRefused (sentFault (S .n) st) (sentByte (length s) st) end ≡ readFile s
+  all-read =
+      received-is S (dealingAt (partOf s)) (dealingG S (partOf s)) (dealingH S (partOf s)) s ∙ file-next s (F .setup) S refl (F .dealing) refl refl refl
+
+  pub sent-refused : (r .refusal ≡ 0 → ⊥) → refusedAt (r .refusal) (r .byte) ≡ readFile s
+  sent-refused n =
+      ap (λ (k : ℕ). refusedAt k (r .byte)) (W .number) ∙ ap (refusedAt (sentFault (S .n) st)) (W .byte)
+      ∙ refused-here (sentFault (S .n) st) (sentByte (length s) st) end (λ z. n (W .number ∙ z))
+      ∙ all-read
+
+  pub sent-next : r .refusal ≡ 0
+      → Vec (S .p) (S .n) (take (S .n) (r .values)) × Vec 2 (S .n) (take (S .n) (r .verdicts))
+      × (ofContents (contentsIn s (take (S .n) (r .values)) (take (S .n) (r .verdicts))) (length s) ≡ readFile s)
+  sent-next z =
+      let B = received-bounded (headOf S (dealingAt (partOf s))) s (setupSize S + dealingSize S) in
+      rw (W .values, W .verdicts) (
+        sent-vec (S .p) (S .n) (st .values) (limits-pos S (setup-fair s F .0 .limits)) (B .values-small),
+        sent-vec 2 (S .n) (st .verdicts) (omega arith) (B .verdicts-small),
+        goes-on (sentFault (S .n) st) (sentByte (length s) st) end (sym (W .number) ∙ z) ∙ all-read,
+      )
+
+-- THE LISTS, as they were read
+pub lists-read : (s : List ℕ) (p : Params) → p ≡ paramsAt s → (r : Lists) → Holds (setupOf p []) s r
+    → (setupOf p (take (p .n * (p .l + p .e)) (r .matrix)) ≡ setupAt s) × (take (p .l + p .e) (r .h) ≡ dealingH (setupAt s) (partOf s))
+    × (r .shares ≡ eight (take (setupAt s .l) (dealingG (setupAt s) (partOf s))))
+lists-read s p e r =
+    subst (λ (q : Params). Holds (setupOf q []) s r
+    → (setupOf q (take (q .n * (q .l + q .e)) (r .matrix)) ≡ setupAt s) × (take (q .l + q .e) (r .h) ≡ dealingH (setupAt s) (partOf s))
+    × (r .shares ≡ eight (take (setupAt s .l) (dealingG (setupAt s) (partOf s))))) (sym e)
+    (λ H. let S = setupAt s in (
+      ap (setupOf (paramsAt s)) (H .matrix),
+      H .h ∙ ap (λ (i : ℕ). wordsAt s i (dim S)) {x = 8 + S .n * dim S + dim S} {y = 5 + S .n * dim S + (3 + dim S)} (omega arith)
+          ∙ sym (words-behind s (setupSize S) (5 + S .n * dim S) (3 + dim S) (dim S) (omega arith)),
+      H .shares ∙ shares-read s,
+    ))
+
+-- WHAT IS TOLD
+pub fate-same : (s : Params) (m verdicts : List ℕ) → fateOf (setupOf s []) verdicts ≡ fateOf (setupOf s m) verdicts
+unfolding fateOf isKept
+fate-same s m verdicts = refl
+
+pub kept-shares : (S : Setup) (g verdicts xs : List ℕ) → fateOf S verdicts ≡ Kept → xs ≡ eight (take (S .l) g) → xs ≡ eight (pick (isKept S verdicts) (take (S .l) g) [])
+kept-shares S g verdicts xs e q = rw (kept-means S verdicts (ap paperFate e)) q
+
+pub no-shares : (S : Setup) (g verdicts : List ℕ) (i : ℕ) → fateOf S verdicts ≡ Aborted i → zeros 8 ≡ eight (pick (isKept S verdicts) (take (S .l) g) [])
+unfolding fateOf
+no-shares S g verdicts i = go (isKept S verdicts)
+  where
+    go : (b : Bool) → pick b Kept (Aborted (first (saidReject verdicts) (S .n))) ≡ Aborted i → zeros 8 ≡ eight (pick b (take (S .l) g) [])
+    go true e = absurd (let z : _≡_ {A = ℕ} 1 0 = ap (λ (f : Fate). at (paperFate f .values) 0) e in omega arith)
+    go false e = refl
+
+pub told-is : (C : Contents) (p : Params) (x : DealingRecord) (j : Judgement) (f : Fate) (xs : List ℕ) → p ≡ paramsOf (C .setup)
+    → x ≡ record { dealing = C .dealing; holder = C .holder } → j ≡ judgement C → f ≡ fate C → xs ≡ eight (keptShares C)
+    → record { setup = p; dealing = x .dealing; holder = x .holder; outcome = record { judgement = j; fate = f }; shares = xs } ≡ told C
+told-is C p x j f xs a b c d e = rw (a, b, c, d, e) refl
