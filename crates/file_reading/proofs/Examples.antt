@@ -12,9 +12,9 @@ use Rattle.field.specs.Dot.{dot}
 use Rattle.scheme.specs.Dealing.{expected, differs, saidReject, isKept, judgementOf, fateOf}
 use Rattle.scheme.proofs.Cases.{ex}
 use Rattle.record_layouts.specs.Words.{bytes, wordsAt}
-use Rattle.file_records.specs.Received.{pairFault, verdictFault, markFault, stepPair, stepVerdict, step, readFor}
+use Rattle.file_records.specs.Received.{pairFault, verdictFault, markFault, stepPair, stepVerdict, step, readFor, complete, lowered}
 use Rattle.file_reading.specs.Contents.{Contents, fileBytes}
-use Rattle.file_reading.specs.File.{whole, refusedAt, setupFault, dealingFault, complete, lowered, ofContents, ofEnd, ofReceived, ofDealing, readFile}
+use Rattle.file_reading.specs.File.{whole, refusedAt, setupFault, dealingFault, ofContents, ofEnd, ofReceived, ofDealing, readFile}
 
 -- "The file is 90 bytes": SU, DL, the PV from 0, 1 and 2, the VD of 0, 1 and 2
 abbrev pub worked : List ℕ

@@ -33,15 +33,16 @@ use Rattle.record_layouts.specs.declared.PairRecord.{PairRecord}
 use Rattle.record_layouts.specs.declared.VerdictRecord.{VerdictRecord}
 use Rattle.record_layouts.specs.Records.{markPV, markVD, setupWords, dealingWords, pairWords, verdictWords, setupSize, dealingSize, setupAt, dealingAt, dealingG, dealingH, readSetupRules}
 use Rattle.record_layouts.proofs.Calls.{dim-small, matrix-small}
-use Rattle.record_layouts.proofs.ReadBack.{setup-at, setup-fair, dealing-at, row-at, column-at, dealing-fair}
+use Rattle.record_layouts.proofs.Layouts.{dealing-at, row-at, column-at}
+use Rattle.record_layouts.proofs.ReadBack.{setup-at, setup-fair, dealing-fair}
 use Rattle.file_records.specs.declared.Head.{Head}
 use Rattle.file_records.specs.declared.Seen.{Seen}
-use Rattle.file_records.specs.Received.{Received, pair, verdict, recordBytes, body, pairRules, pairFault, verdictRules, verdictFault, takePair, takeVerdict, orTake, begin, readReceived}
+use Rattle.file_records.specs.Received.{Received, pair, verdict, recordBytes, body, pairRules, pairFault, verdictRules, verdictFault, takePair, takeVerdict, orTake, begin, readReceived, complete, lowered}
 use Rattle.file_records.proofs.Order.{give, giveAll, read-body, fewer}
 use Rattle.file_reading.specs.Contents.{Contents, InOrder, pairs, verdicts, fileBytes}
-use Rattle.file_reading.specs.File.{FileRead, whole, headOf, complete, lowered, contentsOf, ofContents, readFile, setupFault, dealingFault}
+use Rattle.file_reading.specs.File.{FileRead, whole, headOf, contentsOf, ofContents, ofEnd, readFile, setupFault, dealingFault}
 use Rattle.file_reading.specs.Sound.{ReadsBack}
-use Rattle.file_reading.proofs.Steps.{field-le, of-whole, of-contents, received-next, setup-own, deal-own, isSecond, file-next}
+use Rattle.file_reading.proofs.Steps.{field-le, of-whole, received-next, setup-own, deal-own, isSecond, file-next}
 
 -- A RECORD IN ORDER IS TAKEN
 fair-pair : (h : Head) (x : PairRecord) (had : ℕ) → x .value < h .p → x .sender < h .n → x .receiver ≡ h .holder → x .dealing ≡ h .dealing → had ≡ 0
@@ -197,7 +198,7 @@ module _ (C : Contents) (ok : InOrder C) where
   dl-size = omega (arith, length-bytes (dealingWords x (C .g) (C .h)), length-append (C .g) (C .h), ok .row .size, ok .column .size)
 
   limits-ok : Clear (limits S)
-  limits-ok = let c = limits-clear S (ok .setup .limits) in (c .field, (c .secret, (c .random, (c .holders, tt))))
+  limits-ok = limits-clear S (ok .setup .limits)
 
   whole-size : length (fileBytes C) ≡ setupSize S + dealingSize S + length (body rs)
   whole-size = omega (arith, length-append (su ++ dl) (body rs), length-append su dl, su-size, dl-size)
@@ -250,7 +251,7 @@ module _ (C : Contents) (ok : InOrder C) where
       ∙ all-given
 
   reads : readFile (fileBytes C) ≡ whole C
-  unfolding seen
+  unfolding seen ofEnd
   reads =
       let s = fileBytes C in
       let n = S .n in
@@ -259,7 +260,7 @@ module _ (C : Contents) (ok : InOrder C) where
       sym (of-whole C (length s) (ok .own)
       ∙ ap (λ (v : List ℕ). D v (C .verdicts)) (sym (table-back n few (C .values) (ok .received .size)))
       ∙ ap (λ (v : List ℕ). D (lowered n (marked (C .values) n)) v) (sym (table-back n few (C .verdicts) (ok .heard .size)))
-      ∙ of-contents S x (C .g) (C .h) seen (length s) (table-complete n few (C .values) (ok .received .size)) (table-complete n few (C .verdicts) (ok .heard .size))
+      ∙ rw (table-complete n few (C .values) (ok .received .size), table-complete n few (C .verdicts) (ok .heard .size)) refl
       ∙ received-next S x (C .g) (C .h) s seen (sym all-read) refl
       ∙ file-next s no-setup-fault S (sym (ap setupAt from-setup ∙ setup-at S (dl ++ body rs) (ok .setup .matrix .size))) no-dealing-fault
       (sym (ap dealingAt behind ∙ dealing-at x (C .g) (C .h) (body rs)))

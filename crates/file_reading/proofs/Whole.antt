@@ -22,11 +22,11 @@ use Rattle.record_layouts.specs.declared.DealingRecord.{DealingRecord}
 use Rattle.record_layouts.specs.Records.{setupAt, setupSize, dealingSize, dealingAt, dealingG, dealingH}
 use Rattle.record_layouts.proofs.Calls.{setup-read}
 use Rattle.file_records.specs.declared.Seen.{Seen}
-use Rattle.file_records.specs.Received.{readReceived, begin}
-use Rattle.file_records.proofs.Reading.{read-inside}
+use Rattle.file_records.specs.Received.{readReceived, begin, complete, lowered}
+use Rattle.file_records.proofs.Reading.{read-inside, received-bounded, sent-vec}
 use Rattle.file_reading.specs.Contents.{Contents, InOrder, judgement, verdictOf}
-use Rattle.file_reading.specs.File.{FileRead, refusedAt, whole, numberOf, byteOf, setupFault, dealingFault, headOf, complete, lowered, contentsOf, ofContents, ofEnd, orRefused, ofReceived, ofDealing, readFile}
-use Rattle.file_reading.proofs.Steps.{not-whole, same-contents, setup-clear, deal-clear, dealing-read, both-fit, received-bounded, sent-vec}
+use Rattle.file_reading.specs.File.{FileRead, refusedAt, whole, numberOf, byteOf, setupFault, dealingFault, headOf, contentsOf, ofContents, ofEnd, orRefused, ofReceived, ofDealing, readFile}
+use Rattle.file_reading.proofs.Steps.{not-whole, same-contents, setup-clear, deal-clear, dealing-read, both-fit}
 
 or-whole : (k byte : ℕ) (r : FileRead) (C : Contents) → orRefused k byte r ≡ whole C → (k ≡ 0) × (r ≡ whole C)
 or-whole zero byte r C e = (refl, e)
@@ -90,7 +90,7 @@ module _ (s : List ℕ) (C : Contents) (e : readFile s ≡ whole C) where
   whole-in-order bs =
       let U = setup-read s (setup-clear s (from-setup .0)) .0 in
       let d = dealing-read S t (U .limits) (deal-clear S t (from-dealing .0)) in
-      let B = received-bounded S x (dealingG S t) (dealingH S t) s seen refl in
+      let B = received-bounded (headOf S x) s (setupSize S + dealingSize S) in
       let small : (i : ℕ) → getD t i 0 < 256 = λ i. rw (getD-drop (setupSize S) s i 0) (bs (setupSize S + i)) in
       rw (← same-contents D C (from-contents .1))
       (record {

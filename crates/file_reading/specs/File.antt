@@ -3,21 +3,18 @@
 -- FileRead: a refusal with the byte where the faulty record starts, or the contents
 -- setupFault, dealingFault: the refusal of the first record, and of the second
 -- headOf: what PV and VD are held against
--- complete: each of the first n holders has sent its record; lowered: what they sent
 -- contentsOf: the contents from what stands in SU and DL and what was received
 -- ofContents, ofEnd, ofReceived, ofDealing, readFile: what is read from the contents, from the file's end, from its PV and VD on, from its DL and its start on
 -- orRefused: a refusal, or what follows
 -- numberOf, byteOf: the refusal's number, 0 where there is none, and its byte
 -- eight, paramsOf, told: the contents as the code tells them
-use mathlib.Core.Bool.{Bool, not, _&&_}
+use mathlib.Core.Bool.{not, _&&_}
 use mathlib.Core.List.{List, _++_}
 use Prim.Native.Nat.{ℕ, zero, suc, _+_, _-_}
 use lib.Dec.{eqb, ltb}
 use lib.ListN.{length, drop, replicate}
 use Rattle.base.specs.Choice.{pick}
 use Rattle.base.specs.Rules.{refusal}
-use Rattle.base.specs.Search.{every}
-use Rattle.base.specs.Fill.{tab}
 use Rattle.field.specs.Dot.{at}
 use Rattle.scheme.specs.declared.Params.{Params}
 use Rattle.scheme.specs.Setup.{Setup, dim}
@@ -26,7 +23,7 @@ use Rattle.record_layouts.specs.declared.DealingRecord.{DealingRecord}
 use Rattle.record_layouts.specs.Records.{markSU, setupAt, setupSize, dealingSize, dealingAt, dealingG, dealingH, readSetupRules, readDealingRules}
 use Rattle.file_records.specs.declared.Head.{Head}
 use Rattle.file_records.specs.declared.Seen.{Seen}
-use Rattle.file_records.specs.Received.{readReceived}
+use Rattle.file_records.specs.Received.{readReceived, complete, lowered}
 use Rattle.file_reading.specs.declared.Told.{Told}
 use Rattle.file_reading.specs.Contents.{Contents, judgement, verdictOf, fate, keptShares}
 
@@ -47,12 +44,6 @@ dealingFault S t =
 
 abbrev pub headOf : Setup → DealingRecord → Head
 headOf S x = record { p = S .p; n = S .n; dealing = x .dealing; holder = x .holder }
-
-unfoldable pub complete : ℕ → List ℕ → Bool
-complete n xs = every n (λ i. not (eqb (at xs i) 0))
-
-unfoldable pub lowered : ℕ → List ℕ → List ℕ
-lowered n xs = tab n (λ i. at xs i - 1)
 
 abbrev pub contentsOf : Setup → DealingRecord → (g h values verdicts : List ℕ) → Contents
 contentsOf S x g h values verdicts =

@@ -1,73 +1,59 @@
--- Contracts of inner functions: what stands in a file that has been read so far, and what a step tells of it.
--- setupIn, rowIn, columnIn: the setup and the part that the code holds at the start of its arrays
--- Parts: both have been read and are in order
--- ReadsSetup, ReadsDealing: what the steps that read SU and DL give
+-- Contracts of inner functions: what reading a file gives, stage by stage.
+-- partOf: the file from the byte on where SU ends
+-- Fair: SU and DL are not refused
+-- FrontIn, ReadsFront: what stands in SU and DL; what the stage that reads them gives
+-- contentsIn, PartsIn, ReadsParts: the same of all records
 -- Tells: what the code gives is what is read
--- tellsBy: what it gives where nothing is refused
 use mathlib.Core.Path.{_≡_}
-use mathlib.Core.List.{List, []}
-use Prim.Native.Nat.{ℕ, _+_, _*_, _<_}
+use mathlib.Core.List.{List}
+use Prim.Native.Nat.{ℕ, _+_}
 use lib.ListN.{length, take, drop}
-use Rattle.base.specs.Choice.{pick}
 use Rattle.base.specs.Search.{Vec}
-use Rattle.scheme.specs.declared.Params.{Params}
-use Rattle.scheme.specs.declared.Judgement.{Judgement}
-use Rattle.scheme.specs.Setup.{Setup, dim, IsSetup, setupOf}
-use Rattle.scheme.specs.Dealing.{isKept, fateOf}
-use Rattle.record_layouts.specs.Records.{setupAt, setupSize, dealingAt, dealingG, dealingH}
-use Rattle.file_reading.specs.declared.SetupPart.{SetupPart}
-use Rattle.file_reading.specs.declared.DealingPart.{DealingPart}
+use Rattle.record_layouts.specs.Records.{paramsAt, setupAt, setupSize, dealingSize, dealingAt, dealingG, dealingH}
+use Rattle.file_reading.specs.declared.Front.{Front}
+use Rattle.file_reading.specs.declared.Parts.{Parts}
 use Rattle.file_reading.specs.declared.Reading.{Reading}
 use Rattle.file_reading.specs.Contents.{Contents}
-use Rattle.file_reading.specs.File.{FileRead, whole, setupFault, dealingFault, numberOf, byteOf, told, eight}
+use Rattle.file_reading.specs.File.{FileRead, refusedAt, whole, setupFault, dealingFault, contentsOf, ofContents, readFile, numberOf, byteOf, told}
 
-abbrev pub setupIn : SetupPart → Setup
-setupIn su = setupOf (su .setup) (take (su .setup .n * (su .setup .l + su .setup .e)) (su .matrix))
+abbrev pub partOf : List ℕ → List ℕ
+partOf s = drop (setupSize (setupAt s)) s
 
-abbrev pub rowIn : SetupPart → DealingPart → List ℕ
-rowIn su dl = take (su .setup .l + su .setup .e) (dl .g)
+pub record Fair (s : List ℕ) : Type 0 where
+  pub setup : setupFault s ≡ 0
+  pub dealing : dealingFault (setupAt s) (partOf s) ≡ 0
 
-abbrev pub columnIn : SetupPart → DealingPart → List ℕ
-columnIn su dl = take (su .setup .l + su .setup .e) (dl .h)
+pub record FrontIn (s : List ℕ) (f : Front) : Type 0 where
+  pub fair : Fair s
+  pub setup : f .setup ≡ paramsAt s
+  pub dealing : f .record ≡ dealingAt (partOf s)
+  pub byte : f .byte ≡ setupSize (setupAt s) + dealingSize (setupAt s)
 
-pub record Parts (su : SetupPart) (dl : DealingPart) : Type 0 where
-  pub matrix-size : length (su .matrix) ≡ 512
-  pub g-size : length (dl .g) ≡ 16
-  pub h-size : length (dl .h) ≡ 16
-  pub setup : IsSetup (setupIn su)
-  pub holder : dl .record .holder < su .setup .n
-  pub row : Vec (su .setup .p) (dim (setupIn su)) (rowIn su dl)
-  pub column : Vec (su .setup .p) (dim (setupIn su)) (columnIn su dl)
+pub record ReadsFront (s : List ℕ) (f : Front) : Type 0 where
+  pub refused : (f .refusal ≡ 0 → ⊥) → refusedAt (f .refusal) (f .byte) ≡ readFile s
+  pub next : f .refusal ≡ 0 → FrontIn s f
 
-pub record ReadsSetup (s : List ℕ) (su : SetupPart) : Type 0 where
-  pub number : su .refusal ≡ setupFault s
-  pub size : length (su .matrix) ≡ 512
-  pub is : su .refusal ≡ 0 → setupIn su ≡ setupAt s
+abbrev pub contentsIn : List ℕ → List ℕ → List ℕ → Contents
+contentsIn s values verdicts =
+    let S = setupAt s in
+    let t = partOf s in
+    contentsOf S (dealingAt t) (dealingG S t) (dealingH S t) values verdicts
 
-pub record ReadsDealing (S : Setup) (s : List ℕ) (dl : DealingPart) : Type 0 where
-  pub number : dl .refusal ≡ dealingFault S (drop (setupSize S) s)
-  pub g-size : length (dl .g) ≡ 16
-  pub h-size : length (dl .h) ≡ 16
-  pub is : dl .refusal ≡ 0 → dl .record ≡ dealingAt (drop (setupSize S) s)
-  pub row : dl .refusal ≡ 0 → take (dim S) (dl .g) ≡ dealingG S (drop (setupSize S) s)
-  pub column : dl .refusal ≡ 0 → take (dim S) (dl .h) ≡ dealingH S (drop (setupSize S) s)
+pub record PartsIn (s : List ℕ) (r : Parts) : Type 0 where
+  pub fair : Fair s
+  pub setup : r .setup ≡ paramsAt s
+  pub dealing : r .record ≡ dealingAt (partOf s)
+  pub values-size : length (r .values) ≡ 32
+  pub verdicts-size : length (r .verdicts) ≡ 32
+  pub received : Vec (setupAt s .p) (setupAt s .n) (take (setupAt s .n) (r .values))
+  pub heard : Vec 2 (setupAt s .n) (take (setupAt s .n) (r .verdicts))
+  pub is : ofContents (contentsIn s (take (setupAt s .n) (r .values)) (take (setupAt s .n) (r .verdicts))) (length s) ≡ readFile s
+
+pub record ReadsParts (s : List ℕ) (r : Parts) : Type 0 where
+  pub refused : (r .refusal ≡ 0 → ⊥) → refusedAt (r .refusal) (r .byte) ≡ readFile s
+  pub next : r .refusal ≡ 0 → PartsIn s r
 
 pub record Tells (x : FileRead) (r : Reading) : Type 0 where
   pub number : r .refusal ≡ numberOf x
   pub byte : r .byte ≡ byteOf x
   pub contents : (C : Contents) → x ≡ whole C → r .told ≡ told C
-
--- a file whose contents are in order, by its verdicts
-abbrev pub tellsBy : Params → DealingPart → Judgement → List ℕ → Reading
-tellsBy s dl j verdicts =
-    record {
-      refusal = 0;
-      byte = 0;
-      told = record {
-        setup = s;
-        dealing = dl .record .dealing;
-        holder = dl .record .holder;
-        outcome = record { judgement = j; fate = fateOf (setupOf s []) verdicts };
-        shares = eight (pick (isKept (setupOf s []) verdicts) (take (s .l) (take (s .l + s .e) (dl .g))) []);
-      };
-    }

@@ -1,24 +1,31 @@
 -- Reading the records: a record that is taken has its fields in order, a step stays inside the file and moves on, and a loop's turns are the definition's.
 use Prim.Native.Nat.{ℕ, zero, suc, _+_, _-_, _<_, _≤_}
-use mathlib.Core.Bool.{Bool, true, false}
-use mathlib.Core.List.{List, []}
-use mathlib.Core.Path.{_≡_, refl, _∙_}
+use mathlib.Core.Bool.{Bool, true, false, false≢true}
+use mathlib.Core.List.{List, _++_}
+use mathlib.Core.Path.{_≡_, refl, sym, ap, _∙_}
 use native.Mathlib.Decide.{decLt}
 use native.Mathlib.Omega.{arith}
-use lib.ListN.{length, getD, set, take, drop, replicate, length-set, length-drop, length-replicate, getD-replicate, List·getD-eq-default}
-use lib.Seq.{take-all, getD-set-same, getD-set-other, set-out}
+use lib.ListN.{length, getD, set, take, drop, replicate, length-set, length-append, length-drop, length-replicate, getD-replicate, List·getD-eq-default}
+use lib.Seq.{take-all, take-at, length-take-le, getD-take, getD-set-same, getD-set-other, set-out}
 use lib.Dec.{ltb, leb, eqb}
 use borrow.Author.Tests.{leb-true, leb-false, ltb-false, le-ltb, eqb-true, eqb-false, not-false, lt-leb, le-leb, eq-eqb, ne-eqb}
 use Rattle.base.specs.Choice.{pick}
+use Rattle.base.specs.Search.{every, Vec}
+use Rattle.base.specs.Fill.{filled}
 use Rattle.base.proofs.Rules.{clear}
 use Rattle.base.proofs.Choice.{either}
-use Rattle.record_layouts.specs.Words.{wordAt}
+use Rattle.base.proofs.Search.{every-at}
+use Rattle.base.proofs.Fill.{length-filled, getD-filled, tab-is, tab-vec}
+use Rattle.field.specs.Dot.{at}
+use Rattle.record_layouts.specs.Words.{wordAt, wordsAt}
+use Rattle.record_layouts.proofs.Words.{length-words}
 use Rattle.record_layouts.specs.Records.{markPV, markVD, markSU, markDL, pairSize, verdictSize, pairAt, verdictAt}
 use Rattle.record_layouts.specs.declared.PairRecord.{PairRecord}
 use Rattle.record_layouts.specs.declared.VerdictRecord.{VerdictRecord}
 use Rattle.file_records.specs.declared.Head.{Head}
 use Rattle.file_records.specs.declared.Seen.{Seen}
-use Rattle.file_records.specs.Received.{pairRules, pairFault, verdictRules, verdictFault, markFault, refuse, takePair, takeVerdict, orTake, givePair, giveVerdict, stepPair, stepVerdict, step, readFor, begin, Bounded}
+use Rattle.file_records.specs.Received.{pairRules, pairFault, verdictRules, verdictFault, markFault, refuse, takePair, takeVerdict, orTake, givePair, giveVerdict, stepPair, stepVerdict, step, readFor, begin, readReceived, lowered}
+use Rattle.file_records.specs.Inner.{Bounded}
 
 -- A RECORD THAT IS TAKEN
 pub pair-fair : (h : Head) (x : PairRecord) (had : ℕ) → pairFault h x had ≡ 0 → (x .value < h .p) × (x .sender < h .n) × (had ≡ 0)
@@ -33,16 +40,16 @@ verdict-fair h x had e =
     let q = clear (verdictRules h x had) tt e in
     (leb-false 2 (x .verdict) (q .1 .1 .1 .0), leb-false (h .n) (x .holder) (q .0), eqb-true had 0 (not-false (eqb had 0) (q .1 .1 .0)))
 
--- the fields that the code reads and the number that it works out
-pub pair-given : (h : Head) (t : List ℕ) (st : Seen) (x : PairRecord) (had k : ℕ) → pairSize ≤ length t → x ≡ pairAt t → had ≡ getD (st .values) (x .sender) 0
-    → k ≡ pairFault h x had → stepPair h t st ≡ orTake k st (takePair st x)
+-- the number that the code works out
+pub pair-given : (h : Head) (len : ℕ) (x : PairRecord) (st : Seen) (had k : ℕ) → pairSize ≤ len → had ≡ getD (st .values) (x .sender) 0 → k ≡ pairFault h x had
+    → stepPair h len x st ≡ orTake k st (takePair st x)
 unfolding stepPair
-pair-given h t st x had k l ex eh ek = rw (ek, eh, ex, le-ltb (length t) pairSize l) refl
+pair-given h len x st had k l eh ek = rw (ek, eh, le-ltb len pairSize l) refl
 
-pub verdict-given : (h : Head) (t : List ℕ) (st : Seen) (x : VerdictRecord) (had k : ℕ) → verdictSize ≤ length t → x ≡ verdictAt t
-    → had ≡ getD (st .verdicts) (x .holder) 0 → k ≡ verdictFault h x had → stepVerdict h t st ≡ orTake k st (takeVerdict st x)
+pub verdict-given : (h : Head) (len : ℕ) (x : VerdictRecord) (st : Seen) (had k : ℕ) → verdictSize ≤ len → had ≡ getD (st .verdicts) (x .holder) 0
+    → k ≡ verdictFault h x had → stepVerdict h len x st ≡ orTake k st (takeVerdict st x)
 unfolding stepVerdict
-verdict-given h t st x had k l ex eh ek = rw (ek, eh, ex, le-ltb (length t) verdictSize l) refl
+verdict-given h len x st had k l eh ek = rw (ek, eh, le-ltb len verdictSize l) refl
 
 -- A STEP. What holds of both ways holds of the one taken
 either-way : (P : Seen → Type 0) (b : Bool) (x y : Seen) → (b ≡ true → P x) → (b ≡ false → P y) → P (pick b x y)
@@ -194,7 +201,7 @@ module _ (h : Head) where
       (λ y. either-way (Bounded h) (ltb (length t) verdictSize) _ _ (λ w. three) (λ w. verdict-bounded st (verdictAt t) B))
       (λ y. refused-bounded st (markFault (wordAt t 0)) B)))
 
-  pub read-bounded : (k : ℕ) (s : List ℕ) (st : Seen) → Bounded h st → Bounded h (readFor k h s st)
+  read-bounded : (k : ℕ) (s : List ℕ) (st : Seen) → Bounded h st → Bounded h (readFor k h s st)
   unfolding readFor
   read-bounded zero s st B = B
   read-bounded (suc k) s st B =
@@ -202,7 +209,7 @@ module _ (h : Head) where
       (λ e. either-way (Bounded h) (eqb (step h (drop (st .at) s) st .refusal) 0) _ _
       (λ q. read-bounded k s (step h (drop (st .at) s) st) (step-bounded (drop (st .at) s) st B)) (λ q. step-bounded (drop (st .at) s) st B))
 
-  pub begin-bounded : (at : ℕ) → Bounded h (begin at)
+  begin-bounded : (at : ℕ) → Bounded h (begin at)
   begin-bounded at =
       record {
         values-size = refl;
@@ -217,3 +224,34 @@ module _ (h : Head) where
           go : Dec (i < 32) → getD (replicate {A = ℕ} 32 0) i 0 ≡ 0
           go (yes l) = getD-replicate 32 i 0 0 l
           go (no n) = List·getD-eq-default (replicate {A = ℕ} 32 0) 0 {n = i} (omega (arith, length-replicate {A = ℕ} 32 0))
+
+-- AT THE FILE'S END
+pub received-bounded : (h : Head) (s : List ℕ) (at : ℕ) → Bounded h (readReceived h s at)
+received-bounded h s at = read-bounded h (length s) s (begin at) (begin-bounded h at)
+
+pub every-fails : (n : ℕ) (t : ℕ → Bool) (i : ℕ) → i < n → t i ≡ false → false ≡ every n t
+every-fails n t i l e = go (every n t) refl
+  where
+    go : (b : Bool) → every n t ≡ b → false ≡ b
+    go true q = absurd (false≢true (sym e ∙ every-at n t q i l))
+    go false q = refl
+
+-- the beginning of an array that is filled from the front
+pub begins : (n : ℕ) (xs l : List ℕ) → n ≤ length l → take n (filled (λ i. at xs i - 1) n l) ≡ lowered n xs
+unfolding lowered
+begins n xs l h =
+    tab-is n _ 0 (take n (filled (λ i. at xs i - 1) n l)) (length-take-le n _ (omega (arith, length-filled (λ i. at xs i - 1) n l)))
+    (λ k m. getD-take n _ k 0 m ∙ getD-filled (λ i. at xs i - 1) n l k 0 m (omega arith))
+
+-- what the holders sent is in order
+pub sent-vec : (p n : ℕ) (xs : List ℕ) → 0 < p → ((i : ℕ) → at xs i ≤ p) → Vec p n (lowered n xs)
+unfolding lowered
+sent-vec p n xs pos small = tab-vec p n (λ i. at xs i - 1) (λ i l. omega (arith, small i))
+
+-- words that a call has left at the front of an array
+pub front : (s : List ℕ) (i len : ℕ) (z e : List ℕ) → len ≤ length z → e ≡ wordsAt s i (length (take len z))
+    → (length (e ++ drop len z) ≡ length z) × (take len (e ++ drop len z) ≡ wordsAt s i len)
+front s i len z e l q =
+    let w = q ∙ ap (wordsAt s i) (length-take-le len z l) in
+    let n : length e ≡ len = ap length w ∙ length-words s i len in
+    (omega (arith, length-append e (drop len z), length-drop len z, n), take-at e (drop len z) len n ∙ w)

@@ -8,14 +8,17 @@
 -- refuse, takePair, takeVerdict: what has been seen after a refusal, a PV, a VD
 -- step: what has been seen after the record that stands at the start of t, the file from the byte reached on
 -- readFor, readReceived: records, one after the other, to the end or to a refusal
-use mathlib.Core.Path.{_≡_}
-use Prim.Native.Nat.{ℕ, zero, suc, _+_, _≤_}
-use mathlib.Core.Bool.{not}
+-- complete: each of the first n holders has sent its record; lowered: what they sent
+use Prim.Native.Nat.{ℕ, zero, suc, _+_, _-_}
+use mathlib.Core.Bool.{Bool, not}
 use mathlib.Core.List.{List, [], _∷_, _++_}
 use lib.ListN.{length, getD, set, drop, replicate}
 use lib.Dec.{ltb, leb, eqb}
 use Rattle.base.specs.Choice.{pick}
 use Rattle.base.specs.Rules.{Rule, _when_, refusal}
+use Rattle.base.specs.Search.{every}
+use Rattle.base.specs.Fill.{tab}
+use Rattle.field.specs.Dot.{at}
 use Rattle.record_layouts.specs.Words.{bytes, wordAt}
 use Rattle.record_layouts.specs.Records.{markSU, markDL, markPV, markVD, pairSize, verdictSize, pairWords, verdictWords, pairAt, verdictAt}
 use Rattle.record_layouts.specs.declared.PairRecord.{PairRecord}
@@ -79,18 +82,19 @@ givePair h st x = orTake (pairFault h x (getD (st .values) (x .sender) 0)) st (t
 abbrev pub giveVerdict : Head → Seen → VerdictRecord → Seen
 giveVerdict h st x = orTake (verdictFault h x (getD (st .verdicts) (x .holder) 0)) st (takeVerdict st x)
 
-unfoldable pub stepPair : Head → List ℕ → Seen → Seen
-stepPair h t st = pick (ltb (length t) pairSize) (refuse st 3) (givePair h st (pairAt t))
+-- the fields x, with len bytes from the mark to the file's end
+unfoldable pub stepPair : Head → ℕ → PairRecord → Seen → Seen
+stepPair h len x st = pick (ltb len pairSize) (refuse st 3) (givePair h st x)
 
-unfoldable pub stepVerdict : Head → List ℕ → Seen → Seen
-stepVerdict h t st = pick (ltb (length t) verdictSize) (refuse st 3) (giveVerdict h st (verdictAt t))
+unfoldable pub stepVerdict : Head → ℕ → VerdictRecord → Seen → Seen
+stepVerdict h len x st = pick (ltb len verdictSize) (refuse st 3) (giveVerdict h st x)
 
 -- "A single last byte is a record cut short, 3"
 unfoldable pub step : Head → List ℕ → Seen → Seen
 step h t st =
     pick (ltb (length t) 2) (refuse st 3)
-    (pick (eqb (wordAt t 0) markPV) (stepPair h t st)
-    (pick (eqb (wordAt t 0) markVD) (stepVerdict h t st)
+    (pick (eqb (wordAt t 0) markPV) (stepPair h (length t) (pairAt t) st)
+    (pick (eqb (wordAt t 0) markVD) (stepVerdict h (length t) (verdictAt t) st)
     (refuse st (markFault (wordAt t 0)))))
 
 -- at most k records
@@ -108,16 +112,9 @@ begin at = record { at = at; refusal = 0; values = replicate 32 0; verdicts = re
 abbrev pub readReceived : Head → List ℕ → ℕ → Seen
 readReceived h s at = readFor (length s) h s (begin at)
 
--- what every state keeps: 32 marks of each kind, of values below p and verdicts below 2
-pub record Bounded (h : Head) (st : Seen) : Type 0 where
-  pub values-size : length (st .values) ≡ 32
-  pub verdicts-size : length (st .verdicts) ≡ 32
-  pub values-small : (i : ℕ) → getD (st .values) i 0 ≤ h .p
-  pub verdicts-small : (i : ℕ) → getD (st .verdicts) i 0 ≤ 2
+-- each of the first n holders has sent its record; what they sent
+unfoldable pub complete : ℕ → List ℕ → Bool
+complete n xs = every n (λ i. not (eqb (at xs i) 0))
 
--- what reading relies on: a file within 4,096 bytes, a byte inside it, a field and holders within the limits
-pub record Inside (h : Head) (at len : ℕ) : Type 0 where
-  pub place : at ≤ len
-  pub short : len ≤ 4096
-  pub field : h .p ≤ 65521
-  pub holders : h .n ≤ 32
+unfoldable pub lowered : ℕ → List ℕ → List ℕ
+lowered n xs = tab n (λ i. at xs i - 1)

@@ -4,7 +4,7 @@ use mathlib.Core.List.{List, [], _∷_}
 use Prim.Native.Nat.{ℕ}
 use Rattle.scheme.specs.declared.Judgement.the-variants.{Reject}
 use Rattle.scheme.specs.declared.Fate.the-variants.{Aborted}
-use Rattle.file_text.specs.Report.{width, dec, setupLine, dealingLine, verdictLine, outcomeLine, keptLines, printed}
+use Rattle.file_text.specs.Lines.{width, dec, setupLine, dealingLine, verdictLine, outcomeLine, keptLines, printed}
 
 -- "PV from 0 made 3: own VD 0 gives `verdict reject 0` and `outcome aborted 1`": no share line, whatever the shares are
 aborted : (shares : List ℕ) → printed (record { p = 7; l = 1; e = 1; n = 3; M = [] }) 1 1 (Reject 0) (Aborted 1) shares

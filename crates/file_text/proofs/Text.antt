@@ -10,7 +10,7 @@ use lib.ListN.{length, getD, drop, set, length-append, drop-of-length-le}
 use lib.Seq.{sets, sets-eq, length-sets, drop-cons, take-at, drop-at}
 use borrow.Author.Tests.{lt-ltb, le-ltb}
 use Rattle.file_text.specs.Text.{Wrote, Printed}
-use Rattle.file_text.specs.Report.{width, shareLine, shareLines}
+use Rattle.file_text.specs.Lines.{width, shareLine, shareLines}
 
 sets-append : (l : List ℕ) (i : ℕ) (a b : List ℕ) → sets (sets l i a) (i + length a) b ≡ sets l i (a ++ b)
 sets-append l i [] b = rw add-zero

@@ -1,10 +1,10 @@
-// The text that the holder program prints, written into a lent buffer: words and numbers, then lines, then the two reports that callers use.
+// The text that the holder program prints, written into a lent buffer: words and numbers, then lines, then the two texts that callers ask for.
 ghost use mathlib.Core.List.{[]};
 ghost use Prim.Native.Nat.{_+_, _≤_};
 ghost use lib.ListN.{length};
 ghost use Rattle.scheme.specs.Setup.{setupOf};
 ghost use Rattle.file_text.specs.Text.{Wrote, Printed};
-ghost use Rattle.file_text.specs.Report.{dec, item, lastItem, setupLine, dealingLine, verdictLine, outcomeLine, shareLine, shareLines, keptLines, refusedLine, printed, refusedText};
+ghost use Rattle.file_text.specs.Lines.{dec, item, lastItem, line, setupLine, verdictLine, outcomeLine, shareLines, keptLines, printed, refusedText};
 use scheme::Fate;
 use scheme::Judgement;
 use scheme::Outcome;
@@ -52,6 +52,15 @@ fn put_last(out: &mut [u8], at: usize, words: &[u8], x: u16) -> usize
     put_text(out, k, b"\n")
 }
 
+// Words and a number, and after them words and a number that end the line.
+fn put_line(out: &mut [u8], at: usize, first: &[u8], x: u16, second: &[u8], y: u16) -> usize
+    requires { ⌜ at + length (now first) + length (now second) + 11 ≤ length (now out) ⌝ }
+    ensures { λ r. ⌜ Wrote (now (out .entry)) at (line (now (first .entry)) x (now (second .entry)) y) (length (now (first .entry)) + length (now (second .entry)) + 11) (now (out .exit)) r ⌝ }
+{
+    let k = put_item(out, at, first, x);
+    put_last(out, k, second, y)
+}
+
 // THE LINES
 fn setup_line(out: &mut [u8], at: usize, s: Params) -> usize
     requires { ⌜ at + 30 ≤ length (now out) ⌝ }
@@ -59,16 +68,7 @@ fn setup_line(out: &mut [u8], at: usize, s: Params) -> usize
 {
     let a = put_item(out, at, b"setup ", s.p);
     let b = put_item(out, a, b" ", s.l);
-    let c = put_item(out, b, b" ", s.e);
-    put_last(out, c, b" ", s.n)
-}
-
-fn dealing_line(out: &mut [u8], at: usize, dealing: u16, holder: u16) -> usize
-    requires { ⌜ at + 27 ≤ length (now out) ⌝ }
-    ensures { λ r. ⌜ Wrote (now (out .entry)) at (dealingLine dealing holder) 27 (now (out .exit)) r ⌝ }
-{
-    let k = put_item(out, at, b"dealing ", dealing);
-    put_last(out, k, b" holder ", holder)
+    put_line(out, b, b" ", s.e, b" ", s.n)
 }
 
 fn verdict_line(out: &mut [u8], at: usize, judgement: Judgement) -> usize
@@ -91,14 +91,6 @@ fn outcome_line(out: &mut [u8], at: usize, fate: Fate) -> usize
     }
 }
 
-fn share_line(out: &mut [u8], at: usize, column: u16, value: u16) -> usize
-    requires { ⌜ at + 18 ≤ length (now out) ⌝ }
-    ensures { λ r. ⌜ Wrote (now (out .entry)) at (shareLine column value) 18 (now (out .exit)) r ⌝ }
-{
-    let k = put_item(out, at, b"share ", column);
-    put_last(out, k, b" ", value)
-}
-
 // One line per column.
 fn share_lines(out: &mut [u8], at: usize, shares: &[u16]) -> usize
     requires { ⌜ (length (now shares) ≤ 8) × (at + 144 ≤ length (now out)) ⌝ }
@@ -108,7 +100,7 @@ fn share_lines(out: &mut [u8], at: usize, shares: &[u16]) -> usize
     let mut column = 0;
     let mut k = at;
     while column < n {
-        k = share_line(out, k, column as u16, shares[column]);
+        k = put_line(out, k, b"share ", column as u16, b" ", shares[column]);
         column += 1;
     }
     k
@@ -125,17 +117,9 @@ fn kept_lines(out: &mut [u8], at: usize, fate: Fate, shares: &[u16]) -> usize
     }
 }
 
-fn refused_line(out: &mut [u8], at: usize, number: u16, byte: u16) -> usize
-    requires { ⌜ at + 23 ≤ length (now out) ⌝ }
-    ensures { λ r. ⌜ Wrote (now (out .entry)) at (refusedLine number byte) 23 (now (out .exit)) r ⌝ }
-{
-    let k = put_item(out, at, b"refused ", number);
-    put_last(out, k, b" at ", byte)
-}
-
-// THE TWO REPORTS
+// THE TWO TEXTS
 // What is printed of a file that was read to its end, at most 244 bytes.
-pub fn report(
+pub fn print_told(
     s: Params,
     dealing: u16,
     holder: u16,
@@ -149,16 +133,16 @@ pub fn report(
     let judgement = outcome.judgement;
     let fate = outcome.fate;
     let a = setup_line(out, 0, s);
-    let b = dealing_line(out, a, dealing, holder);
+    let b = put_line(out, a, b"dealing ", dealing, b" holder ", holder);
     let c = verdict_line(out, b, judgement);
     let d = outcome_line(out, c, fate);
     kept_lines(out, d, fate, shares)
 }
 
 // What is printed of a refused file.
-pub fn report_refusal(number: u16, at: u16, out: &mut [u8]) -> usize
+pub fn print_refusal(number: u16, at: u16, out: &mut [u8]) -> usize
     requires { ⌜ 256 ≤ length (now out) ⌝ }
     ensures { λ r. ⌜ Printed (now (out .entry)) (refusedText number at) (now (out .exit)) r ⌝ }
 {
-    refused_line(out, 0, number, at)
+    put_line(out, 0, b"refused ", number, b" at ", at)
 }

@@ -1,80 +1,118 @@
--- The records that are left, read from the state reached, are the records of the whole.
-use Prim.Native.Nat.{_≤_, _-_}
-use mathlib.Core.Path.{_≡_, sym, ap, _∙_}
-use native.Mathlib.Nat.{sub-zero}
+-- What was seen up to the file's end, or to a refusal, decides.
+use Prim.Native.Nat.{ℕ}
+use mathlib.Core.Path.{_≡_, refl, sym, subst, _∙_}
 use native.Mathlib.Omega.{arith}
 use lib.ListN.{length}
-use Rattle.file_records.specs.Received.{step, readFor, readReceived}
-use Rattle.file_records.proofs.Reading.{part-is, read-end, step-inside, turn, stop, spent}
+use borrow.Author.Tests.{eq-eqb, ne-eqb, not-true, not-false}
+use Rattle.file_records.specs.declared.Seen.{Seen}
+use Rattle.file_records.specs.Received.{readReceived}
+use Rattle.file_records.specs.Inner.{Bounded, sentFault, sentByte, Sends}
+use Rattle.file_records.proofs.Reading.{received-bounded}
 use borrow.Author.Needs.{needs}
 use Rattle.file_records.proofs.read_received.Statement.{statement}
 use Rattle.file_records.proofs.read_received.Tie as tie
 
-abbrev Inv-loop : tie.InvT-loop
-Inv-loop s at h st₀ i₀ st i =
-    (i ≤ length s) × (st .at ≤ length s) × (readFor (length s - i) h s st ≡ readReceived h s at)
+-- the places: the start, and where the records are read and both lists lowered
+abbrev start : tie.After-read-records → tie.Start
+start c = c .before .before
 
-abbrev μ-loop : tie.MeasureT-loop
-μ-loop s at h st₀ i₀ st i = length s - i
+abbrev lowered-values : tie.After-lower2 → tie.After-lower
+lowered-values c = c .before .before .before .before
 
-loop-holds : tie.Need-loop-holds Inv-loop μ-loop
-loop-holds c = (omega arith, c .before .pre .place, rw sub-zero)
+abbrev read : tie.After-lower → tie.After-read-records
+read c = c .before .before .before .before .before
 
-returns : tie.Need-returns Inv-loop μ-loop
-returns c = sym (read-end _ _ _ _ (c .if1 .taken)) ∙ c .before .before .loop .inv .2
+abbrev seen : tie.After-lower2 → Seen
+seen c = read (lowered-values c) .read-records .result
 
-sub-t : tie.Need-sub-t Inv-loop μ-loop
-sub-t c = search needs
+bounded : (c : tie.After-read-records) → Bounded (start c .args .h) (c .read-records .result)
+bounded c =
+    let x = start c .args in
+    subst (Bounded (x .h)) (sym (c .read-records .ensures)) (received-bounded (x .h) (x .s .now) (x .at))
 
-part-t-start : tie.Need-part-t-start Inv-loop μ-loop
-part-t-start c = search needs
+-- what is given, by its refusal and byte
+gives : (c : tie.After-lower2) (k byte : ℕ) → let x = start (read (lowered-values c)) .args in
+    k ≡ sentFault (x .h .n) (seen c) → byte ≡ sentByte (length (x .s .now)) (seen c)
+    → Sends (x .h .n) (length (x .s .now)) (readReceived (x .h) (x .s .now) (x .at))
+    (record { refusal = k; byte = byte; values = lowered-values c .lower .result; verdicts = c .lower2 .result })
+gives c k byte e f =
+    let x = start (read (lowered-values c)) .args in
+    subst (λ (st : Seen). Sends (x .h .n) (length (x .s .now)) st (record { refusal = k; byte = byte; values = lowered-values c .lower .result; verdicts = c .lower2 .result }))
+    (read (lowered-values c) .read-records .ensures)
+    (record {
+      number = e;
+      byte = f;
+      values-size = lowered-values c .lower .ensures .0;
+      verdicts-size = c .lower2 .ensures .0;
+      values = lowered-values c .lower .ensures .1;
+      verdicts = c .lower2 .ensures .1;
+    })
 
-part-t-end : tie.Need-part-t-end Inv-loop μ-loop
-part-t-end c = search needs
+read-records-requires : tie.Need-read-records-requires
+read-records-requires c κs = search needs
 
-step-requires : tie.Need-step-requires Inv-loop μ-loop
-step-requires c κs = search needs
+cast-n : tie.Need-cast-n
+cast-n c = search needs
 
-returns-2 : tie.Need-returns-2 Inv-loop μ-loop
+lower-requires : tie.Need-lower-requires
+lower-requires c κs =
+    let r = c .before .before .before .before in
+    (start r .pre .holders, omega (arith, start r .pre .holders, bounded r .values-size))
+
+lower-requires-2 : tie.Need-lower-requires-2
+lower-requires-2 c κs =
+    let r = read (c .before .before .before) in
+    (start r .pre .holders, omega (arith, start r .pre .holders, bounded r .verdicts-size))
+
+returns : tie.Need-returns
+returns c = gives (c .before) _ _ (rw (ne-eqb _ 0 (c .if1 .taken)) refl) (rw (ne-eqb _ 0 (c .if1 .taken)) refl)
+
+complete-requires : tie.Need-complete-requires
+complete-requires c κs =
+    let r = read (lowered-values (c .before .before .before .before)) in
+    omega (arith, start r .pre .holders, bounded r .values-size)
+
+returns-2 : tie.Need-returns-2
 returns-2 c =
-    let l = c .before .before .before .before .before .before in
-    let a = l .before .before .args in
-    let step-is = c .before .before .step .ensures ∙ ap (λ t. step (a .h) t (l .loop .st)) (part-is (a .s .now) (l .loop .st .at)) in
-    sym (stop (length (a .s .now)) (l .loop .i) (a .h) (a .s .now) (l .loop .st) (c .before .before .step .result) (omega arith) (omega arith) step-is (c .if2 .taken)) ∙ l .loop .inv .2
+    let whole = c .before .before .before .before .before in
+    let z = eq-eqb _ 0 (whole .if1 .left) in
+    let a = sym (c .before .complete .ensures) ∙ not-true _ (c .if2 .taken) in
+    gives (whole .before) _ _ (rw (z, a) refl) (rw z refl)
 
-add-i : tie.Need-add-i Inv-loop μ-loop
-add-i c = search needs
+complete-requires-2 : tie.Need-complete-requires-2
+complete-requires-2 c κs =
+    let r = read (lowered-values (c .before .before .before .before .before .before .before .before .before)) in
+    omega (arith, start r .pre .holders, bounded r .verdicts-size)
 
-loop-less : tie.Need-loop-less Inv-loop μ-loop
-loop-less c = omega arith
+returns-3 : tie.Need-returns-3
+returns-3 c =
+    let values = c .before .before .before .before .before in
+    let whole = values .before .before .before .before .before in
+    let z = eq-eqb _ 0 (whole .if1 .left) in
+    let a = sym (values .before .complete .ensures) ∙ not-false _ (values .if2 .left) in
+    let b = sym (c .before .complete2 .ensures) ∙ not-true _ (c .if3 .taken) in
+    gives (whole .before) _ _ (rw (z, a, b) refl) (rw z refl)
 
-loop-again : tie.Need-loop-again Inv-loop μ-loop
-loop-again c =
-    let l = c .before .before .before .before .before .before in
-    let a = l .before .before .args in
-    let step-is = c .before .before .step .ensures ∙ ap (λ t. step (a .h) t (l .loop .st)) (part-is (a .s .now) (l .loop .st .at)) in (
-      omega arith,
-      rw step-is (step-inside (a .h) (a .s .now) (l .loop .st) (l .loop .inv .1)),
-      sym (turn (length (a .s .now)) (l .loop .i) (a .h) (a .s .now) (l .loop .st) (c .before .before .step .result) (omega arith) (omega arith) step-is (c .if2 .left)) ∙ l .loop .inv .2,
-    )
-
-returns-3 : tie.Need-returns-3 Inv-loop μ-loop
-returns-3 c = sym (spent _ _ _ _ (omega arith)) ∙ c .before .loop .inv .2
+returns-4 : tie.Need-returns-4
+returns-4 c =
+    let values = c .before .before .before .before .before in
+    let whole = values .before .before .before .before .before in
+    let z = eq-eqb _ 0 (whole .if1 .left) in
+    let a = sym (values .before .complete .ensures) ∙ not-false _ (values .if2 .left) in
+    let b = sym (c .before .complete2 .ensures) ∙ not-false _ (c .if3 .left) in
+    gives (whole .before) _ _ (rw (z, a, b) refl) (rw z refl)
 
 pub read-received-spec : {M : Type 1} → statement M
 read-received-spec =
     tie.close
     (tie.spec
-    Inv-loop
-    μ-loop
-    loop-holds
+    read-records-requires
+    cast-n
+    lower-requires
+    lower-requires-2
     returns
-    sub-t
-    part-t-start
-    part-t-end
-    step-requires
+    complete-requires
     returns-2
-    add-i
-    loop-less
-    loop-again
-    returns-3)
+    complete-requires-2
+    returns-3
+    returns-4)

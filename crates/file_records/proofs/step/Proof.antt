@@ -5,6 +5,15 @@ use borrow.Author.Needs.{needs}
 use Rattle.file_records.proofs.step.Statement.{statement}
 use Rattle.file_records.proofs.step.Tie as tie
 
+word-requires : tie.Need-word-requires
+word-requires c κs = search needs
+
+pair-at-requires : tie.Need-pair-at-requires
+pair-at-requires c κs = search needs
+
+verdict-at-requires : tie.Need-verdict-at-requires
+verdict-at-requires c κs = search needs
+
 refused-requires : tie.Need-refused-requires
 refused-requires c κs = search needs
 
@@ -12,17 +21,15 @@ returns : tie.Need-returns
 unfolding step
 returns c = simp (lt-ltb _ _ (c .before .if1 .taken)) (c .refused .ensures)
 
-word-requires : tie.Need-word-requires
-word-requires c κs = search needs
-
 step-pair-requires : tie.Need-step-pair-requires
 step-pair-requires c κs = search needs
 
 returns-2 : tie.Need-returns-2
 unfolding step
 returns-2 c =
-    let w = c .before .before in
-    simp (le-ltb _ _ (w .before .if1 .left), ← w .word .ensures, eq-eqb _ _ (c .before .if2 .taken)) (c .step-pair .ensures)
+    let long = c .before .before in
+    let pair = long .before .before in
+    simp (le-ltb _ _ (long .if1 .left), ← pair .before .word .ensures, eq-eqb _ _ (c .before .if2 .taken), ← pair .pair-at .ensures) (c .step-pair .ensures)
 
 step-verdict-requires : tie.Need-step-verdict-requires
 step-verdict-requires c κs = search needs
@@ -30,8 +37,9 @@ step-verdict-requires c κs = search needs
 returns-3 : tie.Need-returns-3
 unfolding step
 returns-3 c =
-    let w = c .before .before .before in
-    simp (le-ltb _ _ (w .before .if1 .left), ← w .word .ensures, ne-eqb _ _ (c .before .before .if2 .left), eq-eqb _ _ (c .before .if3 .taken)) (c .step-verdict .ensures)
+    let long = c .before .before .before in
+    let verdict = long .before in
+    simp (le-ltb _ _ (long .if1 .left), ← verdict .before .before .word .ensures, ne-eqb _ _ (c .before .before .if2 .left), eq-eqb _ _ (c .before .if3 .taken), ← verdict .verdict-at .ensures) (c .step-verdict .ensures)
 
 mark-fault-requires : tie.Need-mark-fault-requires
 mark-fault-requires c κs = search needs
@@ -42,16 +50,19 @@ refused-requires-2 c κs = search needs
 returns-4 : tie.Need-returns-4
 unfolding step
 returns-4 c =
-    let w = c .before .before .before .before in
-    simp (le-ltb _ _ (w .before .if1 .left), ← w .word .ensures, ne-eqb _ _ (c .before .before .before .if2 .left), ne-eqb _ _ (c .before .before .if3 .left), ← c .before .mark-fault .ensures) (c .refused2 .ensures)
+    let neither = c .before .before in
+    let long = neither .before .before in
+    simp (le-ltb _ _ (long .if1 .left), ← long .before .before .before .word .ensures, ne-eqb _ _ (neither .before .if2 .left), ne-eqb _ _ (neither .if3 .left), ← c .before .mark-fault .ensures) (c .refused2 .ensures)
 
 pub step-spec : {M : Type 1} → statement M
 step-spec =
     tie.close
     (tie.spec
+    word-requires
+    pair-at-requires
+    verdict-at-requires
     refused-requires
     returns
-    word-requires
     step-pair-requires
     returns-2
     step-verdict-requires

@@ -15,9 +15,6 @@ returns : tie.Need-returns
 unfolding stepVerdict
 returns c = simp (lt-ltb _ _ (c .before .if1 .taken)) (c .refused .ensures)
 
-verdict-at-requires : tie.Need-verdict-at-requires
-verdict-at-requires c κs = search needs
-
 entry-requires : tie.Need-entry-requires
 entry-requires c κs = search needs
 
@@ -26,10 +23,11 @@ verdict-fault-requires c κs = search needs
 
 take-verdict-requires : tie.Need-take-verdict-requires
 take-verdict-requires c κs =
-    let w = c .before .before .before .before .before .before in
-    let a = w .before .before .before .args in
-    let q = verdict-fair (a .h) (w .verdict-at .result) (c .before .before .entry .result) (sym (c .before .verdict-fault .ensures) ∙ c .if2 .taken) in
-    let pre = w .before .before .before .pre in
+    let fault = c .before in
+    let had = fault .before in
+    let x = had .before .before .before .before .before in
+    let q = verdict-fair (x .args .h) (x .args .x) (had .entry .result) (sym (fault .verdict-fault .ensures) ∙ c .if2 .taken) in
+    let pre = x .pre in
     (omega arith, omega arith, omega arith)
 
 refused-requires-2 : tie.Need-refused-requires-2
@@ -37,17 +35,21 @@ refused-requires-2 c κs = search needs
 
 returns-2 : tie.Need-returns-2
 returns-2 c =
-    let w = c .before .before .before .before .before .before .before in
+    let test = c .before in
+    let fault = test .before in
+    let had = fault .before in
+    let long = had .before .before .before .before in
     c .take-verdict .ensures
-    ∙ sym (verdict-given _ _ _ _ _ _ (w .before .if1 .left) (w .verdict-at .ensures) (c .before .before .before .entry .ensures) (c .before .before .verdict-fault .ensures)
-    ∙ rw (eq-eqb _ _ (c .before .if2 .taken)))
+    ∙ sym (verdict-given _ _ _ _ _ _ (long .if1 .left) (had .entry .ensures) (fault .verdict-fault .ensures) ∙ rw (eq-eqb _ _ (test .if2 .taken)))
 
 returns-3 : tie.Need-returns-3
 returns-3 c =
-    let w = c .before .before .before .before .before .before .before in
+    let test = c .before in
+    let fault = test .before in
+    let had = fault .before in
+    let long = had .before .before .before .before in
     c .refused2 .ensures
-    ∙ sym (verdict-given _ _ _ _ _ _ (w .before .if1 .left) (w .verdict-at .ensures) (c .before .before .before .entry .ensures) (c .before .before .verdict-fault .ensures)
-    ∙ rw (ne-eqb _ _ (c .before .if2 .left)))
+    ∙ sym (verdict-given _ _ _ _ _ _ (long .if1 .left) (had .entry .ensures) (fault .verdict-fault .ensures) ∙ rw (ne-eqb _ _ (test .if2 .left)))
 
 pub step-verdict-spec : {M : Type 1} → statement M
 step-verdict-spec =
@@ -55,7 +57,6 @@ step-verdict-spec =
     (tie.spec
     refused-requires
     returns
-    verdict-at-requires
     entry-requires
     verdict-fault-requires
     take-verdict-requires

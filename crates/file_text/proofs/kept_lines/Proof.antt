@@ -2,7 +2,7 @@
 use mathlib.Core.Path.{refl}
 use native.Mathlib.Omega.{arith}
 use borrow.Author.Needs.{needs}
-use Rattle.file_text.specs.Report.{keptLines}
+use Rattle.file_text.specs.Lines.{keptLines}
 use Rattle.file_text.proofs.kept_lines.Statement.{statement}
 use Rattle.file_text.proofs.kept_lines.Tie as tie
 
@@ -20,7 +20,10 @@ same-length c = search needs
 
 returns : tie.Need-returns
 unfolding keptLines
-returns c = rw (c .before .before .before .before .enum-told .given .1) (c .before .before .share-lines .ensures)
+returns c =
+    let lines = c .before .before in
+    let case = lines .before .before in
+    rw (case .enum-told .given .1) (lines .share-lines .ensures)
 
 returns-2 : tie.Need-returns-2
 unfolding keptLines

@@ -1,7 +1,7 @@
 -- Each case of the fate has its words, which the arm writes.
 use native.Mathlib.Omega.{arith}
 use borrow.Author.Needs.{needs}
-use Rattle.file_text.specs.Report.{outcomeLine}
+use Rattle.file_text.specs.Lines.{outcomeLine}
 use Rattle.file_text.proofs.Text.{more}
 use Rattle.file_text.proofs.outcome_line.Statement.{statement}
 use Rattle.file_text.proofs.outcome_line.Tie as tie
@@ -29,14 +29,20 @@ same-length c = search needs
 
 returns : tie.Need-returns
 unfolding outcomeLine
-returns c = rw (c .before .before .before .before .before .enum-told .given .1) (more (c .before .before .put-text .ensures) (omega arith))
+returns c =
+    let text = c .before .before in
+    let case = text .before .before .before in
+    rw (case .enum-told .given .1) (more (text .put-text .ensures) (omega arith))
 
 same-length-2 : tie.Need-same-length-2
 same-length-2 c = search needs
 
 returns-2 : tie.Need-returns-2
 unfolding outcomeLine
-returns-2 c = rw (c .before .before .before .before .before .before .fate .given .1) (c .before .before .put-last .ensures)
+returns-2 c =
+    let text = c .before .before in
+    let case = text .before .before .before .before in
+    rw (case .fate .given .1) (text .put-last .ensures)
 
 pub outcome-line-spec : {M : Type 1} → statement M
 outcome-line-spec =

@@ -14,7 +14,10 @@ same-length : tie.Need-same-length
 same-length c = search needs
 
 returns : tie.Need-returns
-returns c = both (c .before .before .before .before .before .before .put-text .ensures) (c .before .before .put-number .ensures)
+returns c =
+    let number = c .before .before in
+    let words = number .before .before .before .before in
+    both (words .put-text .ensures) (number .put-number .ensures)
 
 pub put-item-spec : {M : Type 1} → statement M
 put-item-spec = tie.close (tie.spec put-text-requires put-number-requires same-length returns)

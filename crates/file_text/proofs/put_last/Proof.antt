@@ -18,7 +18,10 @@ same-length : tie.Need-same-length
 same-length c = search needs
 
 returns : tie.Need-returns
-returns c = more (both (c .before .before .before .before .before .before .before .put-item .ensures) (c .before .before .put-text .ensures)) (omega arith)
+returns c =
+    let feed = c .before .before in
+    let item = feed .before .before .before .before .before in
+    more (both (item .put-item .ensures) (feed .put-text .ensures)) (omega arith)
 
 pub put-last-spec : {M : Type 1} → statement M
 put-last-spec =

@@ -5,20 +5,23 @@ use native.Mathlib.Omega.{arith}
 use lib.ListN.{take}
 use borrow.Author.Needs.{needs}
 use Rattle.io.specs.Digits.{digits}
-use Rattle.file_text.specs.Report.{width, dec}
+use Rattle.file_text.specs.Lines.{width, dec}
 use Rattle.file_text.proofs.Text.{fewest}
 use Rattle.file_text.proofs.put_number.Statement.{statement}
 use Rattle.file_text.proofs.put_number.Tie as tie
 
+abbrev start : tie.After-decimal → tie.Start
+start c = c .before .before .before
+
 -- how many digits there are, and what they are
-fair : (c : tie.After-decimal) → (c .decimal .result ≡ width (c .before .before .before .args .x)) × (c .decimal .result ≤ 5)
+fair : (c : tie.After-decimal) → (c .decimal .result ≡ width (start c .args .x)) × (c .decimal .result ≤ 5)
 fair c =
     let w = c .decimal .ensures .1 .0 in
-    fewest (c .before .before .before .args .x) (c .decimal .result) (c .before .before .before .fits .x .fits) (w .0) (w .1) (w .2)
+    fewest (start c .args .x) (c .decimal .result) (start c .fits .x .fits) (w .0) (w .1) (w .2)
 
-told : (c : tie.After-decimal) → take (c .decimal .result) (c .decimal .last .1 .0) ≡ dec (c .before .before .before .args .x)
+told : (c : tie.After-decimal) → take (c .decimal .result) (c .decimal .last .1 .0) ≡ dec (start c .args .x)
 unfolding dec
-told c = c .decimal .ensures .1 .1 ∙ ap (λ (n : ℕ). digits 10 n (c .before .before .before .args .x)) (fair c .0)
+told c = c .decimal .ensures .1 .1 ∙ ap (λ (n : ℕ). digits 10 n (start c .args .x)) (fair c .0)
 
 decimal-requires : tie.Need-decimal-requires
 decimal-requires c κs = search needs
@@ -37,8 +40,9 @@ same-length c = search needs
 
 returns : tie.Need-returns
 returns c =
-    let d = c .before .before .before .before .before in
-    let w = c .before .before .put-text .ensures in
+    let put = c .before .before in
+    let d = put .before .before .before in
+    let w = put .put-text .ensures in
     rw (← told d) (record { text = w .text; place = w .place; small = omega (arith, w .place, fair d .1, d .decimal .ensures .0 .1) })
 
 pub put-number-spec : {M : Type 1} → statement M

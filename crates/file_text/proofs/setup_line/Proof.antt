@@ -1,6 +1,6 @@
 -- The four numbers stand one after the other, each after its words.
 use borrow.Author.Needs.{needs}
-use Rattle.file_text.specs.Report.{setupLine}
+use Rattle.file_text.specs.Lines.{setupLine}
 use Rattle.file_text.proofs.Text.{both}
 use Rattle.file_text.proofs.setup_line.Statement.{statement}
 use Rattle.file_text.proofs.setup_line.Tie as tie
@@ -17,17 +17,14 @@ slice-aggregate-put-item-2 c = search needs
 put-item-requires-2 : tie.Need-put-item-requires-2
 put-item-requires-2 c κs = search needs
 
-slice-aggregate-put-item-3 : tie.Need-slice-aggregate-put-item-3
-slice-aggregate-put-item-3 c = search needs
+slice-aggregate-put-line : tie.Need-slice-aggregate-put-line
+slice-aggregate-put-line c = search needs
 
-put-item-requires-3 : tie.Need-put-item-requires-3
-put-item-requires-3 c κs = search needs
+slice-aggregate-put-line-2 : tie.Need-slice-aggregate-put-line-2
+slice-aggregate-put-line-2 c = search needs
 
-slice-aggregate-put-last : tie.Need-slice-aggregate-put-last
-slice-aggregate-put-last c = search needs
-
-put-last-requires : tie.Need-put-last-requires
-put-last-requires c κs = search needs
+put-line-requires : tie.Need-put-line-requires
+put-line-requires c κs = search needs
 
 same-length : tie.Need-same-length
 same-length c = search needs
@@ -35,11 +32,10 @@ same-length c = search needs
 returns : tie.Need-returns
 unfolding setupLine
 returns c =
-    let fourth = c .before .before in
-    let third = fourth .before .before .before .before .before in
-    let second = third .before .before .before .before .before in
+    let two = c .before .before in
+    let second = two .before .before .before .before .before .before in
     let first = second .before .before .before .before .before in
-    both (both (both (first .put-item .ensures) (second .put-item2 .ensures)) (third .put-item3 .ensures)) (fourth .put-last .ensures)
+    both (both (first .put-item .ensures) (second .put-item2 .ensures)) (two .put-line .ensures)
 
 pub setup-line-spec : {M : Type 1} → statement M
 setup-line-spec =
@@ -49,9 +45,8 @@ setup-line-spec =
     put-item-requires
     slice-aggregate-put-item-2
     put-item-requires-2
-    slice-aggregate-put-item-3
-    put-item-requires-3
-    slice-aggregate-put-last
-    put-last-requires
+    slice-aggregate-put-line
+    slice-aggregate-put-line-2
+    put-line-requires
     same-length
     returns)

@@ -1,7 +1,7 @@
 -- Each case of the judgement has its words, which the arm writes.
 use native.Mathlib.Omega.{arith}
 use borrow.Author.Needs.{needs}
-use Rattle.file_text.specs.Report.{verdictLine}
+use Rattle.file_text.specs.Lines.{verdictLine}
 use Rattle.file_text.proofs.Text.{more}
 use Rattle.file_text.proofs.verdict_line.Statement.{statement}
 use Rattle.file_text.proofs.verdict_line.Tie as tie
@@ -29,14 +29,20 @@ same-length c = search needs
 
 returns : tie.Need-returns
 unfolding verdictLine
-returns c = rw (c .before .before .before .before .before .enum-told .given .1) (more (c .before .before .put-text .ensures) (omega arith))
+returns c =
+    let text = c .before .before in
+    let case = text .before .before .before in
+    rw (case .enum-told .given .1) (more (text .put-text .ensures) (omega arith))
 
 same-length-2 : tie.Need-same-length-2
 same-length-2 c = search needs
 
 returns-2 : tie.Need-returns-2
 unfolding verdictLine
-returns-2 c = rw (c .before .before .before .before .before .before .judgement .given .1) (c .before .before .put-last .ensures)
+returns-2 c =
+    let text = c .before .before in
+    let case = text .before .before .before .before in
+    rw (case .judgement .given .1) (text .put-last .ensures)
 
 pub verdict-line-spec : {M : Type 1} → statement M
 verdict-line-spec =
