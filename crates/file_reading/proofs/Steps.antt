@@ -23,12 +23,13 @@ use Rattle.scheme.specs.Setup.{Setup, dim, Limits, IsSetup, setupOf}
 use Rattle.scheme.specs.Calls.{beyondField}
 use Rattle.scheme.specs.Answers.{paperFate}
 use Rattle.scheme.specs.Dealing.{saidReject, isKept, fateOf}
-use Rattle.scheme.proofs.Calls.{limits-pos, in-order, by-own, vec-of}
+use Rattle.base.proofs.Rules.{clear}
+use Rattle.scheme.proofs.Calls.{limits-pos, vec-of}
 use Rattle.scheme.proofs.Verdicts.{kept-means}
 use Rattle.record_layouts.specs.declared.DealingRecord.{DealingRecord}
 use Rattle.record_layouts.specs.Words.{wordAt, wordsAt}
 use Rattle.record_layouts.proofs.Words.{length-words, getD-words}
-use Rattle.record_layouts.specs.Records.{markSU, setupAt, setupSize, dealingSize, dealingAt, dealingG, dealingH, readSetupRules, dealingLent, due, markDL, dealingFaults, readDealingRules, paramsAt}
+use Rattle.record_layouts.specs.Records.{markSU, setupAt, setupSize, dealingSize, dealingAt, dealingG, dealingH, readSetupRules, standingRules, dealingLayout, paramsAt}
 use Rattle.record_layouts.proofs.Calls.{setup-read, dim-small, matrix-small}
 use Rattle.file_records.specs.declared.Seen.{Seen}
 use Rattle.file_records.specs.Received.{readReceived, complete, lowered}
@@ -130,34 +131,30 @@ module _ (S : Setup) (t : List ℕ) where
   unfolding dealingFault
   deal-10 n b = rw (ne-eqb (length t) 0 n, b) refl
 
-  pub deal-own : (length t ≡ 0 → ⊥) → isSecond t ≡ false → refusal (readDealingRules S t (dim S) (dim S)) ≡ dealingFault S t
+  pub deal-own : (length t ≡ 0 → ⊥) → isSecond t ≡ false → refusal (standingRules dealingLayout S t) ≡ dealingFault S t
   unfolding dealingFault
   deal-own n b = rw (ne-eqb (length t) 0 n, b) refl
 
-pub deal-clear : (S : Setup) (t : List ℕ) → dealingFault S t ≡ 0 → refusal (readDealingRules S t (dim S) (dim S)) ≡ 0
+pub deal-clear : (S : Setup) (t : List ℕ) → dealingFault S t ≡ 0 → refusal (standingRules dealingLayout S t) ≡ 0
 unfolding dealingFault
 deal-clear S t e = go (eqb (length t) 0) (isSecond t) e
   where
-    go : (a b : Bool) → pick a 11 (pick b 10 (refusal (readDealingRules S t (dim S) (dim S)))) ≡ 0 → refusal (readDealingRules S t (dim S) (dim S)) ≡ 0
+    go : (a b : Bool) → pick a 11 (pick b 10 (refusal (standingRules dealingLayout S t))) ≡ 0 → refusal (standingRules dealingLayout S t) ≡ 0
     go true b e = absurd (omega arith)
     go false true e = absurd (omega arith)
     go false false e = e
 
--- the rules of the record itself
-abbrev dealing-own : Setup → List ℕ → List Rule
-dealing-own S t = due markDL (dealingSize S) t ++ (beyondField (S .p) (dealingG S t) ∷ beyondField (S .p) (dealingH S t) ∷ dealingFaults S (dealingAt t))
-
 -- a DL that is cut short in its mark
-pub deal-3 : (S : Setup) (t : List ℕ) → Limits S → (length t ≡ 0 → ⊥) → length t < 2 → 3 ≡ dealingFault S t
-deal-3 S t L n l =
+pub deal-3 : (S : Setup) (t : List ℕ) → (length t ≡ 0 → ⊥) → length t < 2 → 3 ≡ dealingFault S t
+deal-3 S t n l =
     let two = lt-ltb (length t) 2 l in
-    sym (by-own S (dealingLent S (dim S) (dim S)) (dealing-own S t) L (refl, (refl, tt)) ∙ rw two refl) ∙ deal-own S t n (rw two refl)
+    sym (rw two refl) ∙ deal-own S t n (rw two refl)
 
 -- a DL that is not refused
-pub dealing-read : (S : Setup) (t : List ℕ) → Limits S → refusal (readDealingRules S t (dim S) (dim S)) ≡ 0
+pub dealing-read : (S : Setup) (t : List ℕ) → Limits S → refusal (standingRules dealingLayout S t) ≡ 0
     → (wordAt t 2 < S .n) × Vec (S .p) (dim S) (dealingG S t) × Vec (S .p) (dim S) (dealingH S t) × (dealingSize S ≤ length t) × (wordAt t 1 ≡ 0 → ⊥)
 dealing-read S t L z =
-    let r = in-order S (dealingLent S (dim S) (dim S)) (dealing-own S t) tt z .own .1 .1 in
+    let r = clear (standingRules dealingLayout S t) tt z .1 .1 in
     let f = r .1 in
     let pos = limits-pos S L in (
       leb-false (S .n) (wordAt t 2) (f .1 .1 .0),

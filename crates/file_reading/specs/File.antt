@@ -20,7 +20,7 @@ use Rattle.scheme.specs.declared.Params.{Params}
 use Rattle.scheme.specs.Setup.{Setup, dim}
 use Rattle.record_layouts.specs.Words.{wordAt}
 use Rattle.record_layouts.specs.declared.DealingRecord.{DealingRecord}
-use Rattle.record_layouts.specs.Records.{markSU, setupAt, setupSize, dealingSize, dealingAt, dealingG, dealingH, readSetupRules, readDealingRules}
+use Rattle.record_layouts.specs.Records.{markSU, setupAt, setupSize, dealingSize, dealingAt, dealingG, dealingH, readSetupRules, standingRules, dealingLayout}
 use Rattle.file_records.specs.declared.Head.{Head}
 use Rattle.file_records.specs.declared.Seen.{Seen}
 use Rattle.file_records.specs.Received.{readReceived, complete, lowered}
@@ -40,7 +40,7 @@ setupFault s = pick (eqb (length s) 0) 11 (refusal (readSetupRules s))
 unfoldable pub dealingFault : Setup → List ℕ → ℕ
 dealingFault S t =
     pick (eqb (length t) 0) 11
-    (pick (not (ltb (length t) 2) && eqb (wordAt t 0) markSU) 10 (refusal (readDealingRules S t (dim S) (dim S))))
+    (pick (not (ltb (length t) 2) && eqb (wordAt t 0) markSU) 10 (refusal (standingRules dealingLayout S t)))
 
 abbrev pub headOf : Setup → DealingRecord → Head
 headOf S x = record { p = S .p; n = S .n; dealing = x .dealing; holder = x .holder }

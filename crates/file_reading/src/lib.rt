@@ -117,7 +117,7 @@ fn read_front(file: &[u8]) -> Front
     if mark == record_layouts::MARK_SU {
         return front;
     }
-    front.refusal = record_layouts::dealing_refusal(s, t, d, d);
+    front.refusal = record_layouts::dealing_fault(s, t);
     if front.refusal != 0 {
         return front;
     }

@@ -13,12 +13,12 @@ use Rattle.base.specs.Matrix.{allBelow}
 use Rattle.base.proofs.Rules.{none-applies, not-refused, clear-both, accepted, written}
 use Rattle.scheme.specs.Setup.{Setup, dim, Limits}
 use Rattle.scheme.specs.Calls.{limits, Lent, room, beyondField, sizes, inField, table, matrix}
-use Rattle.scheme.proofs.Calls.{limits-are, limits-clear, size-clear, elements-clear, InOrder, in-order, accepts}
+use Rattle.scheme.proofs.Calls.{limits-are, limits-clear, size-clear, elements-clear, InOrder, in-order, by-own, accepts}
 use Rattle.record_layouts.specs.Words.{bytes, wordAt, wordsAt}
 use Rattle.record_layouts.proofs.Words.{length-bytes, word-of, words-of}
 use Rattle.record_layouts.specs.declared.DealingRecord.{DealingRecord}
 use Rattle.record_layouts.specs.Records.{due, Layout, allWords, writeRules, writeCall, writeLeft, readRules, readCall, markSU, setupWords, setupSize, setupAt, writeSetupRules, readSetupRules, readMatrixRules}
-use Rattle.record_layouts.specs.Records.{DealingParts, parts, dealingWords, dealingFaults, dealingLayout, dealingLent, readDealingRules, pairValues, pairLayout, verdictValues, verdictLayout, shareValues, shareLayout}
+use Rattle.record_layouts.specs.Records.{DealingParts, parts, dealingWords, dealingFaults, dealingLayout, dealingLent, standingRules, pairValues, pairLayout, verdictValues, verdictLayout, shareValues, shareLayout}
 use Rattle.record_layouts.specs.Sound.{inFile, SetupReads, ReadBack}
 use Rattle.record_layouts.proofs.Layouts.{Lawful, wrote, dealing-lawful, pair-lawful, verdict-lawful, share-lawful}
 use Rattle.record_layouts.proofs.Calls.{matrix-as-setup}
@@ -107,12 +107,13 @@ setup-reads S rest k z =
       entries = λ m e. sym (written (refusal (readMatrixRules s (length m))) (setupAt s .M) m (setupAt s .M) (q m e) refl) ∙ ap (λ (T : Setup). T .M) f;
     }
 
--- DL, with lent buffers of d entries
-pub dealing-fair : (S : Setup) (x : DealingRecord) (g h rest : List ℕ) → length g ≡ dim S → length h ≡ dim S → Clear (limits S)
-    → Clear (beyondField (S .p) g ∷ beyondField (S .p) h ∷ dealingFaults S x)
-    → (a b : ℕ) → a ≡ dim S → b ≡ dim S → refusal (readDealingRules S (bytes (dealingWords x g h) ++ rest) a b) ≡ 0
-dealing-fair S x g h rest i j l c a b k m =
-    fair dealingLayout dealing-lawful S (parts x g h) rest (dealingLent S a b) (limits-are S l) (size-clear _ _ i, (size-clear _ _ j, tt)) c (k, (m, tt))
+-- DL, as it stands in a file
+pub dealing-fair : (S : Setup) (x : DealingRecord) (g h rest : List ℕ) → length g ≡ dim S → length h ≡ dim S → Limits S
+    → Clear (beyondField (S .p) g ∷ beyondField (S .p) h ∷ dealingFaults S x) → refusal (standingRules dealingLayout S (bytes (dealingWords x g h) ++ rest)) ≡ 0
+dealing-fair S x g h rest i j L c =
+    let lent = dealingLent S (dim S) (dim S) in
+    sym (by-own S lent (standingRules dealingLayout S (bytes (dealingWords x g h) ++ rest)) L (refl, (refl, tt)))
+    ∙ fair dealingLayout dealing-lawful S (parts x g h) rest lent L (size-clear _ _ i, (size-clear _ _ j, tt)) c (refl, (refl, tt))
 
 pub read-back : ReadBack
 read-back =

@@ -10,7 +10,7 @@ use lib.ListN.{length, take, drop, length-drop}
 use Rattle.base.specs.Rules.{refusal}
 use Rattle.scheme.specs.declared.Params.{Params}
 use Rattle.scheme.specs.Setup.{dim, Limits, setupOf}
-use Rattle.record_layouts.specs.Records.{markSU, paramsAt, setupAt, setupSize, dealingAt, readDealingRules}
+use Rattle.record_layouts.specs.Records.{markSU, paramsAt, setupAt, setupSize, dealingAt, standingRules, dealingLayout}
 use Rattle.record_layouts.proofs.Calls.{setup-read, matrix-small, dim-small}
 use Rattle.file_records.proofs.Reading.{part-is}
 use Rattle.file_reading.specs.declared.Front.{Front}
@@ -75,16 +75,16 @@ second : (c : tie.Else4) → isSecond (partOf (file (whole (behind c)))) ≡ eqb
 second c =
     sym (ap isSecond (part-same (behind c))) ∙ rw (le-ltb _ 2 (c .if4 .left)) (ap (λ (w : ℕ). eqb w markSU) (sym (c .before .before .word .ensures)))
 
-own : (c : tie.After-dealing-refusal) → let d = behind (c .before .before) in
-    c .dealing-refusal .result ≡ dealingFault (setupAt (file (whole d))) (partOf (file (whole d)))
+own : (c : tie.After-dealing-fault) → let d = behind (c .before .before) in
+    c .dealing-fault .result ≡ dealingFault (setupAt (file (whole d))) (partOf (file (whole d)))
 own c =
     let past = c .before .before in
     let d = behind past in
     let s = file (whole d) in
     let t = take (length s - end (whole d)) (drop (end (whole d)) s) in
-    c .dealing-refusal .ensures
-    ∙ ap (λ (p : Params). refusal (readDealingRules (setupOf p []) t (p .l + p .e) (p .l + p .e))) (params-are (whole d))
-    ∙ ap (λ (u : List ℕ). refusal (readDealingRules (setupAt s) u (dim (setupAt s)) (dim (setupAt s)))) (part-same d)
+    c .dealing-fault .ensures
+    ∙ ap (λ (p : Params). refusal (standingRules dealingLayout (setupOf p []) t)) (params-are (whole d))
+    ∙ ap (λ (u : List ℕ). refusal (standingRules dealingLayout (setupAt s) u)) (part-same d)
     ∙ deal-own (setupAt s) (partOf s) (some d) (second past ∙ ne-eqb _ _ (c .before .if5 .left))
 
 unread-requires : tie.Need-unread-requires
@@ -160,7 +160,7 @@ returns-4 c =
     let s = file (whole d) in
     refused s _ (λ z. omega (arith, z))
     (dealing-refused (whole d) 3 (λ z. omega (arith, z))
-    (deal-3 (setupAt s) (partOf s) (limits (whole d)) (some d) (subst (λ (u : List ℕ). length u < 2) (part-same d) (c .if4 .taken))))
+    (deal-3 (setupAt s) (partOf s) (some d) (subst (λ (u : List ℕ). length u < 2) (part-same d) (c .if4 .taken))))
 
 returns-5 : tie.Need-returns-5
 returns-5 c =
@@ -170,8 +170,8 @@ returns-5 c =
     refused s _ (λ z. omega (arith, z))
     (dealing-refused (whole d) 10 (λ z. omega (arith, z)) (deal-10 (setupAt s) (partOf s) (some d) (second past ∙ eq-eqb _ _ (c .if5 .taken))))
 
-dealing-refusal-requires : tie.Need-dealing-refusal-requires
-dealing-refusal-requires c κs = search needs
+dealing-fault-requires : tie.Need-dealing-fault-requires
+dealing-fault-requires c κs = search needs
 
 returns-6 : tie.Need-returns-6
 returns-6 c =
@@ -227,7 +227,7 @@ read-front-spec =
     dealing-at-requires
     returns-4
     returns-5
-    dealing-refusal-requires
+    dealing-fault-requires
     returns-6
     add-front
     mul-front
