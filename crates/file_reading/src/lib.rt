@@ -168,7 +168,11 @@ pub fn read_file(file: &[u8]) -> Reading
     let mut told = nothing();
     let parts = read_parts(file);
     if parts.refusal != 0 {
-        return Reading { refusal: parts.refusal, byte: parts.byte, told };
+        return Reading {
+            refusal: parts.refusal,
+            byte: parts.byte,
+            told,
+        };
     }
     let s = parts.setup;
     let lists = file_records::read_lists(s, file);
@@ -187,7 +191,11 @@ pub fn read_file(file: &[u8]) -> Reading
     let x = parts.record;
     let i = x.holder as usize;
     if verdicts[i] != own {
-        return Reading { refusal: 13, byte: file.len(), told };
+        return Reading {
+            refusal: 13,
+            byte: file.len(),
+            told,
+        };
     }
     let shares = match fate {
         Fate::Kept => lists.shares,
@@ -200,5 +208,9 @@ pub fn read_file(file: &[u8]) -> Reading
         outcome: Outcome { judgement, fate },
         shares,
     };
-    Reading { refusal: 0, byte: 0, told }
+    Reading {
+        refusal: 0,
+        byte: 0,
+        told,
+    }
 }

@@ -17,7 +17,7 @@ use Rattle.scheme.specs.Dealing.{expected, differs, saidReject, isKept, judgeme
 use Rattle.record_layouts.specs.Records.{setupAt, setupSize, dealingSize}
 use Rattle.file_records.specs.Received.{Received, body, readReceived}
 use Rattle.file_records.proofs.Order.{Among}
-use Rattle.file_text.specs.Report.{width, dec, setupLine, dealingLine, verdictLine, outcomeLine, shareLine, shareLines, keptLines, refusedLine}
+use Rattle.file_text.specs.Lines.{width, dec, setupLine, dealingLine, verdictLine, outcomeLine, shareLine, shareLines, keptLines, refusedLine}
 use Rattle.file_reading.specs.Contents.{Contents, InOrder, fileBytes}
 use Rattle.file_reading.proofs.Sound.{reads-back}
 use Rattle.file_reading.proofs.Order.{headIn, same-read}

@@ -4,19 +4,21 @@ use mathlib.Core.Bool.{Bool, true, false, false≢true}
 use mathlib.Core.List.{List, [], _∷_, _++_}
 use mathlib.Core.Path.{_≡_, refl, sym, ap, subst, _∙_}
 use native.Mathlib.Omega.{arith}
-use borrow.Author.Tests.{le-ltb, eq-eqb}
+use borrow.Author.Tests.{le-ltb, ltb-false, eq-eqb}
 use lib.ListN.{length, getD, take, drop, replicate, length-append, length-replicate, take-append-drop}
 use lib.Seq.{length-take-le, take-at, take-append-seam, drop-append-seam}
 use Rattle.base.specs.Choice.{pick}
 use Rattle.base.specs.Rules.{refusal, Answer, refused, given}
 use Rattle.base.specs.Search.{first}
 use Rattle.base.specs.Fill.{laid}
+use Rattle.base.proofs.Rules.{clear}
 use Rattle.base.proofs.Fill.{tab-is, laid-whole}
 use Rattle.scheme.specs.declared.Fate.the-variants.{Kept, Aborted}
 use Rattle.scheme.specs.Setup.{setupOf}
+use Rattle.scheme.proofs.Calls.{size-is}
 use Rattle.scheme.specs.Dealing.{isKept, saidReject, fateOf}
 use Rattle.file_text.specs.Text.{Printed}
-use Rattle.file_text.specs.Report.{setupLine, dealingLine, verdictLine, outcomeLine, keptLines, printed}
+use Rattle.file_text.specs.Lines.{setupLine, dealingLine, verdictLine, outcomeLine, keptLines, printed}
 use Rattle.file_reading.specs.declared.Reading.{Reading}
 use Rattle.file_reading.specs.declared.Told.{Told}
 use Rattle.file_reading.specs.Contents.{Contents, judgement, fate}
@@ -57,6 +59,9 @@ module _ (C : Contents) (l : C .setup .l ≤ 8) (m : C .setup .l ≤ length (C .
 -- THE CALLS' OWN RULES
 pub lent-ok : (s out : List ℕ) (n : ℕ) → length s ≤ 4096 → length out ≡ n → refusal (lentFile s out n) ≡ 0
 lent-ok s out n l e = rw (le-ltb 4096 (length s) l, eq-eqb (length out) n e) refl
+
+pub lent-means : (s out : List ℕ) (n : ℕ) → refusal (lentFile s out n) ≡ 0 → (length s ≤ 4096) × (length out ≡ n)
+lent-means s out n z = let q = clear (lentFile s out n) tt z in (ltb-false 4096 (length s) (q .0), size-is (length out) n (q .1 .0))
 
 -- A REFUSED FILE
 pub refused-is : (x : FileRead) (k byte : ℕ) → k ≡ numberOf x → byte ≡ byteOf x → (k ≡ 0 → ⊥) → x ≡ refusedAt k byte

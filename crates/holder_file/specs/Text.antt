@@ -4,7 +4,7 @@
 use mathlib.Core.List.{List}
 use Prim.Native.Nat.{ℕ}
 use Rattle.scheme.specs.Dealing.{shares}
-use Rattle.file_text.specs.Report.{printed, refusedText}
+use Rattle.file_text.specs.Lines.{printed, refusedText}
 use Rattle.file_reading.specs.Contents.{Contents, judgement, fate}
 use Rattle.file_reading.specs.File.{FileRead, refusedAt, whole, readFile}
 

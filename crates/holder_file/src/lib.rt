@@ -2,11 +2,9 @@
 ghost use mathlib.Core.Path.{_≡_};
 ghost use mathlib.Core.List.{List, [], _∷_};
 ghost use Prim.Native.Nat.{ℕ, _≤_};
-ghost use lib.ListN.{length, take};
+ghost use lib.ListN.{length};
 ghost use Rattle.base.specs.Rules.{refusal};
-ghost use Rattle.scheme.specs.Setup.{setupOf};
 ghost use Rattle.file_text.specs.Text.{Printed};
-ghost use Rattle.file_text.specs.Report.{printed};
 ghost use Rattle.holder_file.specs.Text.{fileText};
 ghost use Rattle.holder_file.specs.Calls.{lentFile, holderFileCall, holderFileLeft, paperPrinting, judged, settled, numbers, fileContentsCall, fileContentsLeft, paperGiven};
 use file_reading::Told;
@@ -31,20 +29,10 @@ pub enum FileGiven {
 fn lent_refusal(file: &[u8], room: usize, needed: usize) -> u16
     ensures { λ r. ⌜ ((out : List ℕ) → room ≡ length out → r ≡ refusal (lentFile (now (file .entry)) out needed)) ⌝ }
 {
-    let a = base::or_when(0, 3, 4096 < file.len());
-    base::or_when(a, 3, room != needed)
-}
-
-// The text of a file that was read to its end.
-fn print_told(t: Told, out: &mut [u8]) -> usize
-    requires { ⌜ (t .setup .l ≤ 8) × (length (t .shares) ≡ 8) × (256 ≤ length (now out)) ⌝ }
-    ensures { λ r. ⌜ Printed (now (out .entry)) (printed (setupOf (t .setup) []) (t .dealing) (t .holder) (t .outcome .judgement) (t .outcome .fate) (take (t .setup .l) (t .shares))) (now (out .exit)) r ⌝ }
-{
-    let s = t.setup;
-    let outcome = t.outcome;
-    let shares = t.shares;
-    let l = s.l as usize;
-    file_text::report(s, t.dealing, t.holder, outcome, &shares[..l], out)
+    if 4096 < file.len() {
+        return 3;
+    }
+    if room != needed { 3 } else { 0 }
 }
 
 // Prints a holder's file of at most 4,096 bytes into a lent buffer of 256.
@@ -61,8 +49,13 @@ pub fn holder_file(file: &[u8], out: &mut [u8]) -> Printing
     if k != 0 {
         return Printing::RefusedAt(k, r.byte);
     }
-    let told = r.told;
-    Printing::Bytes(print_told(told, out))
+    let t = r.told;
+    let s = t.setup;
+    let outcome = t.outcome;
+    let shares = t.shares;
+    let l = s.l as usize;
+    let count = file_text::print_told(s, t.dealing, t.holder, outcome, &shares[..l], out);
+    Printing::Bytes(count)
 }
 
 // What the holder program prints of a file: its text, or the line of its refusal.
@@ -72,8 +65,8 @@ pub fn print_file(file: &[u8], out: &mut [u8]) -> usize
 {
     match holder_file(file, out) {
         Printing::Bytes(n) => n,
-        Printing::RefusedAt(k, byte) => file_text::report_refusal(k, byte as u16, out),
-        Printing::Refused(k) => file_text::report_refusal(k, 0, out),
+        Printing::RefusedAt(k, byte) => file_text::print_refusal(k, byte as u16, out),
+        Printing::Refused(k) => file_text::print_refusal(k, 0, out),
     }
 }
 

@@ -67,16 +67,16 @@ returns-2 c =
     record {
       refused = λ n. sent-refused s (F .fair) r W n;
       next = λ z. let w = sent-next s (F .fair) r W z in
-      record {
-        fair = F .fair;
-        setup = F .setup;
-        dealing = F .dealing;
-        values-size = W .values-size;
-        verdicts-size = W .verdicts-size;
-        received = w .0;
-        heard = w .1;
-        is = w .2;
-      };
+          record {
+            fair = F .fair;
+            setup = F .setup;
+            dealing = F .dealing;
+            values-size = W .values-size;
+            verdicts-size = W .verdicts-size;
+            received = w .0;
+            heard = w .1;
+            is = w .2;
+          };
     }
 
 pub read-parts-spec : {M : Type 1} → statement M

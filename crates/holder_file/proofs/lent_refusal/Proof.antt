@@ -1,24 +1,17 @@
 -- The two rules, one after the other.
-use Prim.Native.Nat.{ℕ}
-use mathlib.Core.Bool.{not}
-use mathlib.Core.Path.{ap, _∙_}
-use lib.Dec.{eqb, ltb}
-use lib.ListN.{length}
-use Rattle.base.specs.Rules.{orWhen}
-use borrow.Author.Needs.{needs}
+use mathlib.Core.Path.{refl, _∙_}
+use borrow.Author.Tests.{lt-ltb, le-ltb, eq-eqb, ne-eqb}
 use Rattle.holder_file.proofs.lent_refusal.Statement.{statement}
 use Rattle.holder_file.proofs.lent_refusal.Tie as tie
 
-or-when-requires : tie.Need-or-when-requires
-or-when-requires c κs = search needs
-
-or-when-requires-2 : tie.Need-or-when-requires-2
-or-when-requires-2 c κs = search needs
-
 returns : tie.Need-returns
-returns c =
-    let x = c .before .before .before .args in
-    λ out e. c .or-when2 .ensures ∙ ap (λ (r : ℕ). orWhen r 3 (not (eqb (x .room) (x .needed)))) (c .before .or-when .ensures) ∙ ap (λ (k : ℕ). orWhen (orWhen 0 3 (ltb 4096 (length (x .file .now)))) 3 (not (eqb k (x .needed)))) e
+returns c = λ out e. rw (lt-ltb _ _ (c .if1 .taken)) refl
+
+returns-2 : tie.Need-returns-2
+returns-2 c = λ out e. rw (le-ltb _ _ (c .before .if1 .left), ← e, ne-eqb _ _ (c .if2 .taken)) refl
+
+returns-3 : tie.Need-returns-3
+returns-3 c = λ out e. rw (le-ltb _ _ (c .before .if1 .left), ← e, eq-eqb _ _ (c .if2 .left)) refl
 
 pub lent-refusal-spec : {M : Type 1} → statement M
-lent-refusal-spec = tie.close (tie.spec or-when-requires or-when-requires-2 returns)
+lent-refusal-spec = tie.close (tie.spec returns returns-2 returns-3)
