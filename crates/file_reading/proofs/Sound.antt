@@ -222,7 +222,7 @@ module _ (C : Contents) (ok : InOrder C) where
   no-dealing-fault =
       rw behind
       (sym (deal-own S (dl ++ body rs) (λ z. omega (arith, z, length-append dl (body rs), dl-size)) first-there)
-      ∙ dealing-fair S x (C .g) (C .h) (body rs) (ok .row .size) (ok .column .size) (ok .setup .limits)
+      ∙ dealing-fair S x (C .g) (C .h) (body rs) (ok .row .size) (ok .column .size)
       (elements-clear (S .p) (dim S) (C .g) (ok .row), (elements-clear (S .p) (dim S) (C .h) (ok .column), (lt-leb (S .n) (C .holder) (ok .holder), (ne-eqb (C .dealing) 0 (λ z. omega (arith, z, ok .dealing .0)), tt)))))
 
   seen : Seen

@@ -13,20 +13,20 @@ use Rattle.base.proofs.Rules.{accepted}
 use Rattle.scheme.specs.Setup.{Setup, dim, IsSetup}
 use Rattle.scheme.specs.Calls.{matrix, room, elements}
 use Rattle.scheme.specs.Answering.{Answers}
-use Rattle.scheme.proofs.Calls.{limits-clear, elements-clear, accepts}
+use Rattle.scheme.proofs.Calls.{limits-clear, size-clear, elements-clear, accepts}
 use Rattle.scheme.proofs.Answering.{marked-by}
 use Rattle.record_layouts.specs.Words.{bytes}
 use Rattle.record_layouts.specs.declared.DealingRecord.{DealingRecord}
 use Rattle.record_layouts.specs.declared.PairRecord.{PairRecord}
 use Rattle.record_layouts.specs.declared.VerdictRecord.{VerdictRecord}
 use Rattle.record_layouts.specs.declared.ShareRecord.{ShareRecord}
-use Rattle.record_layouts.specs.Records.{writeRules, readRules, setupWords, setupSize, writeSetupRules, readSetupRules, readMatrixRules}
+use Rattle.record_layouts.specs.Records.{dealingLent, writeRules, readRules, setupWords, setupSize, writeSetupRules, readSetupRules, readMatrixRules}
 use Rattle.record_layouts.specs.Records.{parts, dealingWords, dealingSize, dealingFaults, dealingLayout, readDealingRules}
 use Rattle.record_layouts.specs.Records.{pairWords, pairSize, pairFaults, pairLayout, verdictWords, verdictSize, verdictFaults, verdictLayout, shareWords, shareSize, shareFaults, shareLayout}
 use Rattle.record_layouts.specs.Answering.{RecordsMarked, WritersRising, DealingInOrder, PairInOrder, VerdictInOrder, ShareInOrder, RecordsAnswering}
-use Rattle.record_layouts.proofs.Layouts.{pair-lawful, verdict-lawful, share-lawful}
+use Rattle.record_layouts.proofs.Layouts.{dealing-lawful, pair-lawful, verdict-lawful, share-lawful}
 use Rattle.record_layouts.proofs.Calls.{matrix-as-setup}
-use Rattle.record_layouts.proofs.ReadBack.{fair, setup-at, setup-fair, dealing-fair}
+use Rattle.record_layouts.proofs.ReadBack.{fair, setup-at, setup-fair}
 
 -- THE MARK
 pub records-marked : RecordsMarked
@@ -100,8 +100,9 @@ records-answering =
           (e, (w .row, (w .column, tt))) (dealing-clear S x g h w));
       read-dealing = λ S x g h rest a b L w i j.
           answers-by (refusal (readDealingRules S (bytes (dealingWords x g h) ++ rest) (length a) (length b))) _
-          (dealing-fair S x g h rest (w .row .size) (w .column .size) (limits-clear S L)
-          (elements-clear (S .p) _ g (w .row), (elements-clear (S .p) _ h (w .column), dealing-clear S x g h w)) (length a) (length b) i j);
+          (fair dealingLayout dealing-lawful S (parts x g h) rest (dealingLent S (length a) (length b)) L
+          (size-clear _ _ (w .row .size), (size-clear _ _ (w .column .size), tt))
+          (elements-clear (S .p) _ g (w .row), (elements-clear (S .p) _ h (w .column), dealing-clear S x g h w)) (i, (j, tt)));
       write-pair = λ S x out L w e.
           answers-by (refusal (writeRules pairLayout S x (length out))) [] (accepts S (room (length out) pairSize ∷ []) (pairFaults S x) L (e, tt) (pair-clear S x w));
       read-pair = λ S x rest L w.

@@ -12,8 +12,8 @@ use Rattle.base.specs.Rules.{Rule, _when_, refusal, Clear, given, leftBy}
 use Rattle.base.specs.Matrix.{allBelow}
 use Rattle.base.proofs.Rules.{none-applies, not-refused, clear-both, accepted, written}
 use Rattle.scheme.specs.Setup.{Setup, dim, Limits}
-use Rattle.scheme.specs.Calls.{limits, Lent, room, beyondField, sizes, inField, table, matrix}
-use Rattle.scheme.proofs.Calls.{limits-are, limits-clear, size-clear, elements-clear, InOrder, in-order, by-own, accepts}
+use Rattle.scheme.specs.Calls.{limits, Lent, room, beyondField, sizes, inField, matrix}
+use Rattle.scheme.proofs.Calls.{limits-clear, size-clear, elements-clear, InOrder, in-order, by-own}
 use Rattle.record_layouts.specs.Words.{bytes, wordAt, wordsAt}
 use Rattle.record_layouts.proofs.Words.{length-bytes, word-of, words-of}
 use Rattle.record_layouts.specs.declared.DealingRecord.{DealingRecord}
@@ -40,12 +40,15 @@ module _ {A : Type 0} (L : Layout A) (W : Lawful A L) (S : Setup) (x : A) where
   own = inField (S .p) (L .lists S x) ++ L .faults S x
 
   -- where nothing is faulty, the record's bytes pass its reader
+  pub stands : (rest : List ℕ) → Clear (sizes (L .lists S x)) → Clear own → refusal (standingRules L S (bytes (allWords L x) ++ rest)) ≡ 0
+  stands rest z c =
+      let d = due (L .mark) (L .size S) (bytes (allWords L x) ++ rest) in
+      ap (λ (y : A). refusal (d ++ (inField (S .p) (L .lists S y) ++ L .faults S y))) (W .again S x rest z)
+      ∙ none-applies (d ++ own) (clear-both d own (due-clear (L .mark) (L .words x) rest (L .size S) (omega (arith, W .long S x z))) c)
+
   pub fair : (rest : List ℕ) (lent : List Lent) → Limits S → Clear (sizes (L .lists S x)) → Clear own → InOrder (S .p) lent
       → refusal (readRules L S lent (bytes (allWords L x) ++ rest)) ≡ 0
-  fair rest lent l z c v =
-      let d = due (L .mark) (L .size S) (bytes (allWords L x) ++ rest) in
-      ap (λ (y : A). refusal (table S lent (d ++ (inField (S .p) (L .lists S y) ++ L .faults S y)))) (W .again S x rest z)
-      ∙ accepts S lent (d ++ own) l v (clear-both d own (due-clear (L .mark) (L .words x) rest (L .size S) (omega (arith, W .long S x z))) c)
+  fair rest lent l z c v = by-own S lent (standingRules L S (bytes (allWords L x) ++ rest)) l v ∙ stands rest z c
 
   -- what is written passes the reader, and the fields read are those written
   back : (out before rest : List ℕ) → writeCall L S x out ≡ given [] → (lent : List Lent) → InOrder (S .p) lent
@@ -108,12 +111,9 @@ setup-reads S rest k z =
     }
 
 -- DL, as it stands in a file
-pub dealing-fair : (S : Setup) (x : DealingRecord) (g h rest : List ℕ) → length g ≡ dim S → length h ≡ dim S → Limits S
+pub dealing-fair : (S : Setup) (x : DealingRecord) (g h rest : List ℕ) → length g ≡ dim S → length h ≡ dim S
     → Clear (beyondField (S .p) g ∷ beyondField (S .p) h ∷ dealingFaults S x) → refusal (standingRules dealingLayout S (bytes (dealingWords x g h) ++ rest)) ≡ 0
-dealing-fair S x g h rest i j L c =
-    let lent = dealingLent S (dim S) (dim S) in
-    sym (by-own S lent (standingRules dealingLayout S (bytes (dealingWords x g h) ++ rest)) L (refl, (refl, tt)))
-    ∙ fair dealingLayout dealing-lawful S (parts x g h) rest lent L (size-clear _ _ i, (size-clear _ _ j, tt)) c (refl, (refl, tt))
+dealing-fair S x g h rest i j c = stands dealingLayout dealing-lawful S (parts x g h) rest (size-clear _ _ i, (size-clear _ _ j, tt)) c
 
 pub read-back : ReadBack
 read-back =
