@@ -1,8 +1,7 @@
 -- Two files that differ only in the order of their PV and VD and are both read to the end are read alike, so that they print the same (document 01, "Records": "Two files
 -- that differ only in that order and are both read to the end print the same").
 -- word-front .. h-front: SU and DL are read from their own bytes, whatever follows
--- headIn: what PV and VD are held against
--- same-read: what is read of the file
+-- same-read: the statement of specs/Sound.antt
 use Prim.Native.Nat.{ℕ, zero, suc, _+_, _*_, _≤_}
 use mathlib.Core.List.{List, _++_}
 use mathlib.Core.Path.{_≡_, refl, sym, ap, _∙_}
@@ -15,11 +14,12 @@ use Rattle.record_layouts.specs.Words.{wordAt, wordsAt}
 use Rattle.record_layouts.specs.declared.DealingRecord.{DealingRecord}
 use Rattle.record_layouts.specs.Records.{setupSize, dealingSize, setupAt, dealingAt, dealingG, dealingH}
 use Rattle.record_layouts.proofs.Calls.{setup-read}
-use Rattle.file_records.specs.declared.Head.{Head}
 use Rattle.file_records.specs.declared.Seen.{Seen}
-use Rattle.file_records.specs.Received.{Received, body, readReceived, begin}
-use Rattle.file_records.proofs.Order.{Among, same-received, fewer}
+use Rattle.file_records.specs.Received.{Received, body, readReceived}
+use Rattle.file_records.specs.Sound.{Same}
+use Rattle.file_records.proofs.Order.{same-received}
 use Rattle.file_reading.specs.File.{FileRead, headOf, ofEnd, orRefused, ofReceived, dealingFault, ofDealing, setupFault, readFile}
+use Rattle.file_reading.specs.Sound.{SameRead}
 use Rattle.file_reading.proofs.Steps.{received-next, setup-clear}
 
 -- FROM PV AND VD ON
@@ -32,24 +32,19 @@ end-same S x g h st su len e f = rw (e, f) refl
 same-length : (a u v : List ℕ) → length u ≡ length v → length (a ++ u) ≡ length (a ++ v)
 same-length a u v e = length-append a u ∙ ap (λ n. length a + n) e ∙ sym (length-append a v)
 
-module _ (a : List ℕ) (rs qs : List Received) (p : (r : Received) → Among r rs → Among r qs) (q : (r : Received) → Among r qs → Among r rs)
-    (len : length (body rs) ≡ length (body qs)) where
-  same-received-read : (S : Setup) (x : DealingRecord) (g h : List ℕ) → S .n ≤ 32 → length a ≡ setupSize S + dealingSize S
-      → readReceived (headOf S x) (a ++ body rs) (setupSize S + dealingSize S) .refusal ≡ 0
-      → readReceived (headOf S x) (a ++ body qs) (setupSize S + dealingSize S) .refusal ≡ 0
-      → ofReceived S x g h (a ++ body rs) ≡ ofReceived S x g h (a ++ body qs)
-  same-received-read S x g h n e y z =
-      let at = setupSize S + dealingSize S in
-      let s = a ++ body rs in
-      let t = a ++ body qs in
-      let st = readReceived (headOf S x) s at in
-      let su = readReceived (headOf S x) t at in
-      let w = same-received (headOf S x) n a (begin at) (sym e) refl refl rs qs p q (length s) (length t)
-      (omega (arith, fewer rs, length-append a (body rs))) (omega (arith, fewer qs, length-append a (body qs))) y z in
-      sym (received-next S x g h s st refl y)
-      ∙ end-same S x g h st su (length s) (w .0) (w .1)
-      ∙ ap (ofEnd S x g h su) (same-length a (body rs) (body qs) len)
-      ∙ received-next S x g h t su refl z
+same-received-read : (a : List ℕ) (rs qs : List Received) → Same rs qs → (S : Setup) (x : DealingRecord) (g h : List ℕ) → S .n ≤ 32 → length a ≡ setupSize S + dealingSize S
+    → readReceived (headOf S x) (a ++ body rs) (length a) .refusal ≡ 0 → readReceived (headOf S x) (a ++ body qs) (length a) .refusal ≡ 0
+    → ofReceived S x g h (a ++ body rs) ≡ ofReceived S x g h (a ++ body qs)
+same-received-read a rs qs same S x g h n e y z =
+    let s = a ++ body rs in
+    let t = a ++ body qs in
+    let st = readReceived (headOf S x) s (length a) in
+    let su = readReceived (headOf S x) t (length a) in
+    let w = same-received (headOf S x) a rs qs n same y z in
+    sym (received-next S x g h s st (ap (readReceived (headOf S x) s) e) y)
+    ∙ end-same S x g h st su (length s) (w .0) (w .1)
+    ∙ ap (ofEnd S x g h su) (same-length a (body rs) (body qs) (same .long))
+    ∙ received-next S x g h t su (ap (readReceived (headOf S x) t) e) z
 
 -- THE BYTES IN FRONT
 module _ (a u : List ℕ) where
@@ -124,9 +119,6 @@ module _ (a u v : List ℕ) (e : length u ≡ length v) where
       ) refl
 
 -- THE FILE
-abbrev pub headIn : List ℕ → Head
-headIn a = headOf (setupAt a) (dealingAt (drop (setupSize (setupAt a)) a))
-
 or-same : (k byte : ℕ) (x y : FileRead) → (k ≡ 0 → x ≡ y) → orRefused k byte x ≡ orRefused k byte y
 or-same zero byte x y f = f refl
 or-same (suc k) byte x y f = refl
@@ -152,25 +144,18 @@ same-dealing S a u v len e r =
       r,
     ) refl
 
--- a is an SU and a DL; behind it stand the same records, in two orders
-module _ (a : List ℕ) (e : length a ≡ setupSize (setupAt a) + dealingSize (setupAt a))
-    (rs qs : List Received) (p : (r : Received) → Among r rs → Among r qs) (q : (r : Received) → Among r qs → Among r rs) (len : length (body rs) ≡ length (body qs))
-    (y : readReceived (headIn a) (a ++ body rs) (length a) .refusal ≡ 0) (z : readReceived (headIn a) (a ++ body qs) (length a) .refusal ≡ 0) where
-  from-dealing : setupAt a .n ≤ 32 → ofDealing (setupAt a) (a ++ body rs) ≡ ofDealing (setupAt a) (a ++ body qs)
-  from-dealing n =
-      let S : Setup = setupAt a in
-      let d : List ℕ = drop (setupSize S) a in
-      same-dealing S a (body rs) (body qs) len e (same-received-read a rs qs p q len S (dealingAt d) (dealingG S d) (dealingH S d) n e (rw e at y) (rw e at z))
-
-  pub same-read : readFile (a ++ body rs) ≡ readFile (a ++ body qs)
-  unfolding readFile
-  same-read =
-      let l : setupSize (setupAt a) ≤ length a = omega (arith, e) in
-      let i = setup-front a (body rs) l in
-      let j = setup-front a (body qs) l in
-      let few : setupFault (a ++ body rs) ≡ 0 → setupAt (a ++ body rs) .n ≤ 32 = λ f. setup-read (a ++ body rs) (setup-clear (a ++ body rs) f) .0 .limits .holders .1 in
-      rw (← same-setup-fault a (body rs) (body qs) len l)
-      (or-same (setupFault (a ++ body rs)) 0 (ofDealing (setupAt (a ++ body rs)) (a ++ body rs)) (ofDealing (setupAt (a ++ body qs)) (a ++ body qs))
-      (λ f. ap (λ (S : Setup). ofDealing S (a ++ body rs)) i
-      ∙ from-dealing (omega (arith, few f, ap (λ (S : Setup). S .n) i))
-      ∙ ap (λ (S : Setup). ofDealing S (a ++ body qs)) (sym j)))
+pub same-read : SameRead
+unfolding readFile
+same-read a rs qs e same y z =
+    let S : Setup = setupAt a in
+    let d : List ℕ = drop (setupSize S) a in
+    let l : setupSize S ≤ length a = omega (arith, e) in
+    let i = setup-front a (body rs) l in
+    let j = setup-front a (body qs) l in
+    let few : setupFault (a ++ body rs) ≡ 0 → setupAt (a ++ body rs) .n ≤ 32 = λ f. setup-read (a ++ body rs) (setup-clear (a ++ body rs) f) .0 .limits .holders .1 in
+    rw (← same-setup-fault a (body rs) (body qs) (same .long) l)
+    (or-same (setupFault (a ++ body rs)) 0 (ofDealing (setupAt (a ++ body rs)) (a ++ body rs)) (ofDealing (setupAt (a ++ body qs)) (a ++ body qs))
+    (λ f. ap (λ (T : Setup). ofDealing T (a ++ body rs)) i
+    ∙ same-dealing S a (body rs) (body qs) (same .long) e
+    (same-received-read a rs qs same S (dealingAt d) (dealingG S d) (dealingH S d) (omega (arith, few f, ap (λ (T : Setup). T .n) i)) e y z)
+    ∙ ap (λ (T : Setup). ofDealing T (a ++ body qs)) (sym j)))

@@ -1,7 +1,7 @@
 -- The steps from what stands in a file to what is read: each test on the way picks what is read, and what is not refused is in order.
 use Prim.Native.Nat.{ℕ, zero, suc, _+_, _-_, _*_, _<_, _≤_}
 use mathlib.Core.Bool.{Bool, true, false, not, _&&_, false≢true}
-use mathlib.Core.List.{List, [], _∷_, _++_}
+use mathlib.Core.List.{List, [], _++_}
 use mathlib.Core.Path.{_≡_, refl, sym, ap, subst, _∙_}
 use native.Mathlib.Omega.{arith}
 use borrow.Author.Tests.{eq-eqb, ne-eqb, lt-ltb, eqb-false, ltb-false, leb-false}
@@ -9,7 +9,7 @@ use lib.Dec.{eqb, ltb, lit≤}
 use lib.ListN.{length, take, drop, replicate, length-drop}
 use lib.Seq.{getD-drop, getD-take, length-take-le}
 use Rattle.base.specs.Choice.{pick}
-use Rattle.base.specs.Rules.{Rule, refusal}
+use Rattle.base.specs.Rules.{refusal}
 use Rattle.base.specs.Search.{first, Vec}
 use Rattle.base.proofs.Fill.{tab-ext, tab-is}
 use Rattle.field.specs.Fields.{isField}
@@ -20,7 +20,6 @@ use Rattle.scheme.specs.declared.Judgement.{Judgement}
 use Rattle.scheme.specs.declared.Fate.{Fate}
 use Rattle.scheme.specs.declared.Fate.the-variants.{Kept, Aborted}
 use Rattle.scheme.specs.Setup.{Setup, dim, Limits, IsSetup, setupOf}
-use Rattle.scheme.specs.Calls.{beyondField}
 use Rattle.scheme.specs.Answers.{paperFate}
 use Rattle.scheme.specs.Dealing.{saidReject, isKept, fateOf}
 use Rattle.base.proofs.Rules.{clear}
@@ -37,7 +36,6 @@ use Rattle.file_records.specs.declared.Sent.{Sent}
 use Rattle.file_records.specs.declared.Lists.{Lists}
 use Rattle.file_records.specs.Inner.{sentFault, sentByte, Sends, Whole, Holds}
 use Rattle.file_records.proofs.Reading.{received-bounded, sent-vec}
-use Rattle.file_reading.specs.declared.Reading.{Reading}
 use Rattle.file_reading.specs.declared.Told.{Told}
 use Rattle.file_reading.specs.Contents.{Contents, verdictOf, judgement, fate, keptShares}
 use Rattle.file_reading.specs.File.{FileRead, refusedAt, whole, setupFault, dealingFault, headOf, contentsOf, ofContents, ofEnd, orRefused, ofReceived, ofDealing, readFile, eight, paramsOf, told}

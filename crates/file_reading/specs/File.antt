@@ -17,7 +17,7 @@ use Rattle.base.specs.Choice.{pick}
 use Rattle.base.specs.Rules.{refusal}
 use Rattle.field.specs.Dot.{at}
 use Rattle.scheme.specs.declared.Params.{Params}
-use Rattle.scheme.specs.Setup.{Setup, dim}
+use Rattle.scheme.specs.Setup.{Setup}
 use Rattle.record_layouts.specs.Words.{wordAt}
 use Rattle.record_layouts.specs.declared.DealingRecord.{DealingRecord}
 use Rattle.record_layouts.specs.Records.{markSU, setupAt, setupSize, dealingSize, dealingAt, dealingG, dealingH, readSetupRules, standingRules, dealingLayout}

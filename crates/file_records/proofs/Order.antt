@@ -2,7 +2,7 @@
 -- trace in what has been received.
 -- give, giveAll: what has been seen after one record, and after a list
 -- read-body: reading a body is giving its records
--- same-received: two files with the same records after the same head, both read to the end, have received the same
+-- same-received: the statement of specs/Sound.antt
 use Prim.Native.Nat.{ℕ, zero, suc, _+_, _*_, _<_, _≤_}
 use mathlib.Core.Bool.{Bool, true, false}
 use mathlib.Core.List.{List, [], _∷_, _++_, append-assoc, append-nil}
@@ -10,9 +10,9 @@ use mathlib.Core.Path.{_≡_, refl, sym, ap, _∙_}
 use native.Mathlib.Nat.{not-suc-le-zero}
 use native.Mathlib.Numerals.{add-one}
 use native.Mathlib.Omega.{arith}
-use lib.ListN.{length, getD, set, drop, length-append, length-set}
+use lib.ListN.{length, getD, length-append, length-set}
 use lib.Seq.{drop-at}
-use lib.Dec.{ltb, leb, eqb}
+use lib.Dec.{eqb}
 use borrow.Author.Tests.{le-ltb, lt-leb, eq-eqb, eqb-true, eqb-false}
 use Rattle.base.specs.Choice.{pick}
 use Rattle.record_layouts.specs.Words.{bytes}
@@ -22,7 +22,8 @@ use Rattle.record_layouts.specs.declared.PairRecord.{PairRecord}
 use Rattle.record_layouts.specs.declared.VerdictRecord.{VerdictRecord}
 use Rattle.file_records.specs.declared.Head.{Head}
 use Rattle.file_records.specs.declared.Seen.{Seen}
-use Rattle.file_records.specs.Received.{Received, pair, verdict, recordBytes, body, pairFault, verdictFault, refuse, takePair, takeVerdict, orTake, givePair, giveVerdict, stepPair, stepVerdict, step, readFor}
+use Rattle.file_records.specs.Received.{Received, pair, verdict, recordBytes, body, pairFault, verdictFault, refuse, takePair, takeVerdict, orTake, givePair, giveVerdict, stepPair, stepVerdict, step, readFor, begin}
+use Rattle.file_records.specs.Sound.{Among, here, there, SameReceived}
 use Rattle.file_records.proofs.Reading.{pair-fair, verdict-fair, read-end}
 use Rattle.file_records.proofs.Table.{Entry, In, fill, Fresh, any-order}
 
@@ -168,11 +169,6 @@ kept h (verdict x ∷ rs) st n a b q =
       verdicts = rw (w .1) (i .verdicts ∙ rw (add-one (x .verdict)) refl);
     }
 
--- a record of a list
-pub data Among (a : Received) : List Received → Type 0 where
-  here : {l : List Received} → Among a (a ∷ l)
-  there : {b : Received} {l : List Received} → Among a l → Among a (b ∷ l)
-
 pair-in : {x : PairRecord} (rs : List Received) → Among (pair x) rs → In (record { key = x .sender; val = x .value }) (pairsOf rs)
 unfolding pairsOf
 pair-in (_ ∷ rs) here = In.here
@@ -197,19 +193,16 @@ verdict-of (pair x ∷ rs) a m = let w = verdict-of rs a m in (w .0, there (w .1
 verdict-of (verdict x ∷ rs) _ In.here = (x, here, refl)
 verdict-of (verdict x ∷ rs) a (In.there m) = let w = verdict-of rs a m in (w .0, there (w .1), w .2)
 
-module _ (h : Head) (n : h .n ≤ 32) (a : List ℕ) (st : Seen) (at : st .at ≡ length a) (lp : length (st .values) ≡ 32) (lv : length (st .verdicts) ≡ 32)
-    (rs qs : List Received) (p : (r : Received) → Among r rs → Among r qs) (q : (r : Received) → Among r qs → Among r rs)
-    (j k : ℕ) (lj : length rs ≤ j) (lk : length qs ≤ k) where
-  pub same-received : readFor j h (a ++ body rs) st .refusal ≡ 0 → readFor k h (a ++ body qs) st .refusal ≡ 0
-      → (readFor j h (a ++ body rs) st .values ≡ readFor k h (a ++ body qs) st .values) × (readFor j h (a ++ body rs) st .verdicts ≡ readFor k h (a ++ body qs) st .verdicts)
-  same-received f g =
-      let x = read-body rs j h a st at lj in
-      let y = read-body qs k h a st at lk in
-      let u = kept h rs st n lp lv (rw x at f) in
-      let w = kept h qs st n lp lv (rw y at g) in
-      rw (x, y) (
-        u .values ∙ any-order (pairsOf rs) (pairsOf qs) (st .values) (u .free) (w .free)
-            (λ e m. let z = pair-of rs e m in rw (z .2) (pair-in qs (p _ (z .1)))) (λ e m. let z = pair-of qs e m in rw (z .2) (pair-in rs (q _ (z .1)))) ∙ sym (w .values),
-        u .verdicts ∙ any-order (verdictsOf rs) (verdictsOf qs) (st .verdicts) (u .free-too) (w .free-too)
-            (λ e m. let z = verdict-of rs e m in rw (z .2) (verdict-in qs (p _ (z .1)))) (λ e m. let z = verdict-of qs e m in rw (z .2) (verdict-in rs (q _ (z .1)))) ∙ sym (w .verdicts),
-      )
+pub same-received : SameReceived
+same-received h a rs qs n s f g =
+    let st = begin (length a) in
+    let x = read-body rs (length (a ++ body rs)) h a st refl (omega (arith, fewer rs, length-append a (body rs))) in
+    let y = read-body qs (length (a ++ body qs)) h a st refl (omega (arith, fewer qs, length-append a (body qs))) in
+    let u = kept h rs st n refl refl (rw x at f) in
+    let w = kept h qs st n refl refl (rw y at g) in
+    rw (x, y) (
+      u .values ∙ any-order (pairsOf rs) (pairsOf qs) (st .values) (u .free) (w .free)
+          (λ e m. let z = pair-of rs e m in rw (z .2) (pair-in qs (s .over _ (z .1)))) (λ e m. let z = pair-of qs e m in rw (z .2) (pair-in rs (s .back _ (z .1)))) ∙ sym (w .values),
+      u .verdicts ∙ any-order (verdictsOf rs) (verdictsOf qs) (st .verdicts) (u .free-too) (w .free-too)
+          (λ e m. let z = verdict-of rs e m in rw (z .2) (verdict-in qs (s .over _ (z .1)))) (λ e m. let z = verdict-of qs e m in rw (z .2) (verdict-in rs (s .back _ (z .1)))) ∙ sym (w .verdicts),
+    )

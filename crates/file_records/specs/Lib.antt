@@ -1,2 +1,3 @@
 pub mod Received
 pub mod Inner
+pub mod Sound

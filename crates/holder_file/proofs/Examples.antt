@@ -1,11 +1,11 @@
 -- What is printed: the text of every contents in order, whichever order the records have; and document 01's file of 90 bytes with its three variants ("The holder program on
 -- paper"), computed from the definitions, one line here for each line there.
 -- prints, call-prints, call-leaves: the file of contents in order prints their text
--- same-text: files that differ only in the order of their PV and VD print the same
-use mathlib.Core.Path.{_≡_, refl, sym, ap, _∙_}
+-- same-text: the statement of specs/Text.antt
+use mathlib.Core.Path.{_≡_, refl, ap}
 use mathlib.Core.Bool.{not}
 use mathlib.Core.List.{List, [], _∷_, _++_}
-use Prim.Native.Nat.{ℕ, _+_, _≤_, _<_}
+use Prim.Native.Nat.{ℕ, _+_}
 use lib.ListN.{length, drop}
 use borrow.Author.Tests.{eq-eqb, le-ltb}
 use Rattle.base.specs.Rules.{refusal, given}
@@ -14,15 +14,12 @@ use Rattle.base.specs.Sum.{sum}
 use Rattle.base.specs.Search.{first, firstFrom}
 use Rattle.field.specs.Dot.{dot}
 use Rattle.scheme.specs.Dealing.{expected, differs, saidReject, isKept, judgementOf, fateOf}
-use Rattle.record_layouts.specs.Records.{setupAt, setupSize, dealingSize}
-use Rattle.file_records.specs.Received.{Received, body, readReceived}
-use Rattle.file_records.proofs.Order.{Among}
 use Rattle.file_text.specs.Lines.{width, dec, setupLine, dealingLine, verdictLine, outcomeLine, shareLine, shareLines, keptLines, refusedLine}
 use Rattle.file_reading.specs.Contents.{Contents, InOrder, fileBytes}
 use Rattle.file_reading.proofs.Sound.{reads-back}
-use Rattle.file_reading.proofs.Order.{headIn, same-read}
+use Rattle.file_reading.proofs.Order.{same-read}
 use Rattle.file_reading.proofs.Examples.{worked, last-gone, rejected, contradicted, worked-read, last-gone-read, rejected-read, contradicted-read}
-use Rattle.holder_file.specs.Text.{textOf, lineOf, fileText}
+use Rattle.holder_file.specs.Text.{textOf, lineOf, fileText, SameText}
 use Rattle.holder_file.specs.Calls.{lentFile, holderFileCall, holderFileLeft}
 
 pub prints : (C : Contents) → InOrder C → fileText (fileBytes C) ≡ textOf C
@@ -44,12 +41,8 @@ call-leaves C ok out e =
     let A = reads-back C ok in
     rw (not-lent C ok out e, A .back) refl
 
--- document 01: "Two files that differ only in that order and are both read to the end print the same"
-module _ (a : List ℕ) (e : length a ≡ setupSize (setupAt a) + dealingSize (setupAt a))
-    (rs qs : List Received) (p : (r : Received) → Among r rs → Among r qs) (q : (r : Received) → Among r qs → Among r rs) (len : length (body rs) ≡ length (body qs))
-    (y : readReceived (headIn a) (a ++ body rs) (length a) .refusal ≡ 0) (z : readReceived (headIn a) (a ++ body qs) (length a) .refusal ≡ 0) where
-  pub same-text : fileText (a ++ body rs) ≡ fileText (a ++ body qs)
-  same-text = ap lineOf (same-read a e rs qs p q len y z)
+pub same-text : SameText
+same-text a rs qs e same y z = ap lineOf (same-read a rs qs e same y z)
 
 -- "setup 7 1 1 3", "dealing 1 holder 1", "verdict accept", "outcome kept", "share 0 2"
 pub worked-text : fileText worked

@@ -2,13 +2,13 @@
 use Prim.Native.Nat.{ℕ, _+_, _*_, _≤_, _<_}
 use mathlib.Core.List.{List, []}
 use mathlib.Core.Logic.{⊎-elim}
-use mathlib.Core.Path.{_≡_, refl, sym, ap, subst, _∙_}
+use mathlib.Core.Path.{_≡_, sym, ap, _∙_}
 use native.Mathlib.Omega.{arith}
 use lib.ListN.{length, getD, take}
 use lib.Seq.{length-take-le, getD-take}
 use Rattle.base.specs.Rules.{refusal}
 use Rattle.scheme.specs.declared.Params.{Params}
-use Rattle.scheme.specs.Setup.{Setup, dim, setupOf}
+use Rattle.scheme.specs.Setup.{Setup, setupOf}
 use Rattle.scheme.specs.Calls.{judgeRules}
 use Rattle.scheme.specs.Dealing.{judgementOf, fateOf}
 use Rattle.scheme.proofs.Calls.{judge-accepts}

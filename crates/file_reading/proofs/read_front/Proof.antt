@@ -1,6 +1,5 @@
 -- Each test names the fault; where there is none the fields are those of SU and DL.
 use Prim.Native.Nat.{ℕ, _+_, _-_, _*_, _≤_, _<_}
-use mathlib.Core.Bool.{not}
 use mathlib.Core.List.{List, []}
 use mathlib.Core.Path.{_≡_, refl, sym, ap, subst, _∙_}
 use native.Mathlib.Omega.{arith}
@@ -9,7 +8,7 @@ use lib.Dec.{eqb}
 use lib.ListN.{length, take, drop, length-drop}
 use Rattle.base.specs.Rules.{refusal}
 use Rattle.scheme.specs.declared.Params.{Params}
-use Rattle.scheme.specs.Setup.{dim, Limits, setupOf}
+use Rattle.scheme.specs.Setup.{Limits, setupOf}
 use Rattle.record_layouts.specs.Records.{markSU, paramsAt, setupAt, setupSize, dealingAt, standingRules, dealingLayout}
 use Rattle.record_layouts.proofs.Calls.{setup-read, matrix-small, dim-small}
 use Rattle.file_records.proofs.Reading.{part-is}

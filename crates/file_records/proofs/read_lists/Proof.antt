@@ -1,9 +1,9 @@
 -- Each list is lent the start of an array of zeros.
-use Prim.Native.Nat.{ℕ, _+_, _*_, _≤_}
+use Prim.Native.Nat.{ℕ, _+_, _*_}
 use mathlib.Core.List.{List, [], _++_}
-use mathlib.Core.Path.{_≡_, sym, ap, _∙_}
+use mathlib.Core.Path.{sym, ap, _∙_}
 use native.Mathlib.Omega.{arith}
-use lib.ListN.{length, take, drop, replicate}
+use lib.ListN.{drop, replicate}
 use lib.Seq.{length-take-le}
 use Rattle.scheme.specs.Setup.{Setup, dim, setupOf}
 use Rattle.record_layouts.specs.Words.{wordsAt}

@@ -43,7 +43,10 @@ slice-aggregate-print : tie.Need-slice-aggregate-print
 slice-aggregate-print c = sym (length-take-le _ _ (array-share-prefix-file (c .before)))
 
 print-requires : tie.Need-print-requires
-print-requires c κs = omega (arith, c .before .before .before .before .before .if2 .left, length-take-le (c .before .before .before .before .before .before .word .result) (c .before .before .before .read2 .last .0) (array-share-prefix-file (c .before)))
+print-requires c κs =
+    let read = c .before .before .before in
+    let fits = read .before .before in
+    omega (arith, fits .if2 .left, length-take-le (fits .before .word .result) (read .read2 .last .0) (array-share-prefix-file (c .before)))
 
 returns-4 : tie.Need-returns-4
 returns-4 c = search needs

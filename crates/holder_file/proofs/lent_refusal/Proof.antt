@@ -1,5 +1,5 @@
 -- The two rules, one after the other.
-use mathlib.Core.Path.{refl, _∙_}
+use mathlib.Core.Path.{refl}
 use borrow.Author.Tests.{lt-ltb, le-ltb, eq-eqb, ne-eqb}
 use Rattle.holder_file.proofs.lent_refusal.Statement.{statement}
 use Rattle.holder_file.proofs.lent_refusal.Tie as tie
