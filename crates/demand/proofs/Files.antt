@@ -12,7 +12,7 @@ use Rattle.scheme.specs.Dealing.{judge, outcome}
 use Rattle.scheme.specs.Calls.{judgeRules, outcomeRules}
 use Rattle.scheme.proofs.Calls.{deal-ok, judge-ok, outcome-ok}
 use Rattle.scheme.proofs.Verdicts.{accept-is, kept-means, kept-is}
-use Rattle.file_text.specs.Report.{printed}
+use Rattle.file_text.specs.Lines.{printed}
 use Rattle.file_reading.specs.Contents.{InOrder, judgement, fate, keptShares, verdictOf}
 use Rattle.file_reading.proofs.Sound.{reads-back}
 use Rattle.holder_file.specs.Text.{textOf}

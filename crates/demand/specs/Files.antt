@@ -8,7 +8,7 @@ use Prim.Native.Nat.{ℕ, _≤_, _<_}
 use Rattle.scheme.specs.declared.Judgement.the-variants.{Accept}
 use Rattle.scheme.specs.declared.Fate.the-variants.{Kept}
 use Rattle.scheme.specs.Setup.{Setup}
-use Rattle.file_text.specs.Report.{printed}
+use Rattle.file_text.specs.Lines.{printed}
 use Rattle.file_reading.specs.Contents.{Contents, InOrder, judgement, fate, keptShares, fileBytes}
 use Rattle.file_reading.specs.Sound.{Accepted}
 use Rattle.holder_file.specs.Text.{fileText}

@@ -5,7 +5,9 @@ ghost use lib.ListN.{length};
 ghost use Rattle.file_reading.specs.File.{readFile};
 ghost use Rattle.file_reading.specs.Inner.{ReadsFront, ReadsParts, Tells};
 use file_records::Head;
+use record_layouts::DEALING_HEAD;
 use record_layouts::DealingRecord;
+use record_layouts::SETUP_HEAD;
 use scheme::Fate;
 use scheme::Judgement;
 use scheme::Outcome;
@@ -99,7 +101,7 @@ fn read_front(file: &[u8]) -> Front
         return front;
     }
     let d = (s.l as usize) + (s.e as usize);
-    let at = 10 + 2 * ((s.n as usize) * d);
+    let at = SETUP_HEAD + 2 * ((s.n as usize) * d);
     front.byte = at;
     front.refusal = 11;
     if file.len() <= at {
@@ -121,7 +123,7 @@ fn read_front(file: &[u8]) -> Front
     if front.refusal != 0 {
         return front;
     }
-    front.byte = at + 6 + 4 * d;
+    front.byte = at + DEALING_HEAD + 4 * d;
     front
 }
 

@@ -26,6 +26,11 @@ pub const MARK_VD: u16 = 0x4456;
 
 pub const MARK_SH: u16 = 0x4853;
 
+// How many bytes SU and DL have before their lists.
+pub const SETUP_HEAD: usize = 10;
+
+pub const DEALING_HEAD: usize = 6;
+
 // How many bytes a record of one size has.
 pub const PAIR_SIZE: usize = 10;
 
@@ -282,7 +287,7 @@ pub fn or_due(standing: u16, s: &[u8], mark: u16, needed: usize) -> u16
 pub fn matrix_refusal(s: &[u8], room: usize) -> u16
     ensures { λ r. ⌜ r ≡ refusal (readMatrixRules (now (s .entry)) room) ⌝ }
 {
-    let a = or_due(0, s, MARK_SU, 10);
+    let a = or_due(0, s, MARK_SU, SETUP_HEAD);
     if a != 0 {
         return a;
     }
@@ -292,7 +297,7 @@ pub fn matrix_refusal(s: &[u8], room: usize) -> u16
     if b != 0 {
         return b;
     }
-    if s.len() < 10 + 2 * len {
+    if s.len() < SETUP_HEAD + 2 * len {
         return 3;
     }
     if room != len {
@@ -314,7 +319,7 @@ pub fn dealing_fault(s: Params, part: &[u8]) -> u16
     ensures { λ r. ⌜ r ≡ refusal (standingRules dealingLayout (setupOf s []) (now (part .entry))) ⌝ }
 {
     let d = s.dim();
-    let a = or_due(0, part, MARK_DL, 6 + 4 * d);
+    let a = or_due(0, part, MARK_DL, DEALING_HEAD + 4 * d);
     if a != 0 {
         return a;
     }

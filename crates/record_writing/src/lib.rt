@@ -9,6 +9,7 @@ ghost use Rattle.scheme.specs.Answers.{paperWritten};
 ghost use Rattle.record_layouts.specs.Words.{bytes};
 ghost use Rattle.record_layouts.specs.Records.{setupWords, writeSetupCall, writeSetupLeft, dealingWords, writeDealingCall, writeDealingLeft};
 ghost use Rattle.record_layouts.specs.Records.{writePairCall, writePairLeft, writeVerdictCall, writeVerdictLeft, writeShareCall, writeShareLeft};
+use record_layouts::DEALING_HEAD;
 use record_layouts::DealingRecord;
 use record_layouts::MARK_DL;
 use record_layouts::MARK_PV;
@@ -17,6 +18,7 @@ use record_layouts::MARK_SU;
 use record_layouts::MARK_VD;
 use record_layouts::PAIR_SIZE;
 use record_layouts::PairRecord;
+use record_layouts::SETUP_HEAD;
 use record_layouts::SHARE_SIZE;
 use record_layouts::ShareRecord;
 use record_layouts::VERDICT_SIZE;
@@ -41,7 +43,7 @@ pub fn write_setup(s: Params, matrix: &[u16], out: &mut [u8]) -> Written
 {
     let len = s.matrix_len();
     let a = scheme::or_size(scheme::limits_refusal(s), matrix.len(), len);
-    let b = scheme::or_size(a, out.len(), 10 + 2 * len);
+    let b = scheme::or_size(a, out.len(), SETUP_HEAD + 2 * len);
     let refusal = scheme::or_elements(b, s.p, matrix);
     if refusal != 0 {
         return Written::Refused(refusal);
@@ -67,7 +69,7 @@ pub fn write_dealing(s: Params, x: DealingRecord, g: &[u16], h: &[u16], out: &mu
     ensures buffer { λ _. ⌜ now (out .exit) ≡ writeDealingLeft (setupOf s []) x (now (g .entry)) (now (h .entry)) (now (out .entry)) ⌝ }
 {
     let d = s.dim();
-    let a = scheme::or_size(scheme::limits_refusal(s), out.len(), 6 + 4 * d);
+    let a = scheme::or_size(scheme::limits_refusal(s), out.len(), DEALING_HEAD + 4 * d);
     let b = scheme::or_size(a, g.len(), d);
     let c = scheme::or_size(b, h.len(), d);
     let e = scheme::or_elements(scheme::or_elements(c, s.p, g), s.p, h);
