@@ -272,11 +272,13 @@ pub fn read_lists(s: Params, file: &[u8]) -> Lists
     let l = s.l as usize;
     let d = l + (s.e as usize);
     let len = (s.n as usize) * d;
+    let row = 8 + len;
+    let column = row + d;
     let mut matrix = [0u16; 512];
     record_layouts::get_words(file, 5, &mut matrix[..len]);
     let mut shares = [0u16; 8];
-    record_layouts::get_words(file, 8 + len, &mut shares[..l]);
+    record_layouts::get_words(file, row, &mut shares[..l]);
     let mut h = [0u16; 16];
-    record_layouts::get_words(file, 8 + len + d, &mut h[..d]);
+    record_layouts::get_words(file, column, &mut h[..d]);
     Lists { matrix, shares, h }
 }

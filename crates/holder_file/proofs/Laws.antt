@@ -8,10 +8,10 @@ use borrow.Author.Tests.{le-ltb, ltb-false, eq-eqb}
 use lib.ListN.{length, getD, take, drop, replicate, length-append, length-replicate, take-append-drop}
 use lib.Seq.{length-take-le, take-at, take-append-seam, drop-append-seam}
 use Rattle.base.specs.Choice.{pick}
-use Rattle.base.specs.Rules.{refusal, Answer, refused, given}
+use Rattle.base.specs.Rules.{refusal, Answer, refused, given, answerBy, leftBy}
 use Rattle.base.specs.Search.{first}
 use Rattle.base.specs.Fill.{laid}
-use Rattle.base.proofs.Rules.{clear}
+use Rattle.base.proofs.Rules.{clear, declined, unchanged, accepted, written}
 use Rattle.base.proofs.Fill.{tab-is, laid-whole}
 use Rattle.scheme.specs.declared.Fate.the-variants.{Kept, Aborted}
 use Rattle.scheme.specs.Setup.{setupOf}
@@ -64,11 +64,11 @@ pub lent-means : (s out : List ℕ) (n : ℕ) → refusal (lentFile s out n) ≡
 lent-means s out n z = let q = clear (lentFile s out n) tt z in (ltb-false 4096 (length s) (q .0), size-is (length out) n (q .1 .0))
 
 -- A REFUSED FILE
-pub refused-is : (x : FileRead) (k byte : ℕ) → k ≡ numberOf x → byte ≡ byteOf x → (k ≡ 0 → ⊥) → x ≡ refusedAt k byte
+refused-is : (x : FileRead) (k byte : ℕ) → k ≡ numberOf x → byte ≡ byteOf x → (k ≡ 0 → ⊥) → x ≡ refusedAt k byte
 refused-is (refusedAt j b) k byte e f n = rw (e, f) refl
 refused-is (whole C) k byte e f n = absurd (n e)
 
-pub refused-answer : (values : Contents → List ℕ) (x : FileRead) (k byte : ℕ) → x ≡ refusedAt k byte → atByte k byte ≡ fileAnswer values x
+refused-answer : (values : Contents → List ℕ) (x : FileRead) (k byte : ℕ) → x ≡ refusedAt k byte → atByte k byte ≡ fileAnswer values x
 refused-answer values x k byte e = rw e refl
 
 pub refused-left : (new : Contents → List ℕ) (x : FileRead) (k byte : ℕ) (old : List ℕ) → x ≡ refusedAt k byte → old ≡ fileLeft new x old
@@ -82,6 +82,25 @@ at-answer values (whole C) k byte e = absurd (false≢true (ap (λ (a : Answer).
 
 pub inside : (s : List ℕ) (k byte : ℕ) → readFile s ≡ refusedAt k byte → byte ≤ length s
 inside s k byte e = subst (λ (x : FileRead). byteOf x ≤ length s) e (file-inside s)
+
+-- the answer and the buffer where what is lent is refused, and where the file is
+module _ (s out : List ℕ) (n : ℕ) (values new : Contents → List ℕ) where
+  pub lent-declined : (r : ℕ) → r ≡ refusal (lentFile s out n) → (r ≡ 0 → ⊥)
+      → (refused r ≡ answerBy (refusal (lentFile s out n)) (fileAnswer values (readFile s)))
+      × (out ≡ leftBy (refusal (lentFile s out n)) (fileLeft new (readFile s) out) out)
+  lent-declined r e some =
+      let R = refusal (lentFile s out n) in
+      (ap refused e ∙ declined R (fileAnswer values (readFile s)) (λ z. some (e ∙ z)), unchanged R (fileLeft new (readFile s) out) out (λ z. some (e ∙ z)))
+
+  pub file-declined : (r : Reading) → refusal (lentFile s out n) ≡ 0 → Tells (readFile s) r → (r .refusal ≡ 0 → ⊥)
+      → (atByte (r .refusal) (r .byte) ≡ answerBy (refusal (lentFile s out n)) (fileAnswer values (readFile s)))
+      × (out ≡ leftBy (refusal (lentFile s out n)) (fileLeft new (readFile s) out) out)
+  file-declined r z w some =
+      let R = refusal (lentFile s out n) in
+      let f = refused-is (readFile s) (r .refusal) (r .byte) (w .number) (w .byte) some in (
+        refused-answer values (readFile s) (r .refusal) (r .byte) f ∙ accepted R (fileAnswer values (readFile s)) z,
+        written R (fileLeft new (readFile s) out) out out z (refused-left new (readFile s) (r .refusal) (r .byte) out f),
+      )
 
 -- only what is lent is refused with no byte
 pub never-plain : (x : FileRead) (k : ℕ) → refused k ≡ fileAnswer (λ C. length (textOf C) ∷ []) x → ⊥

@@ -42,6 +42,12 @@ cast-len c = search needs
 mul-len : tie.Need-mul-len
 mul-len c = search needs
 
+add-row : tie.Need-add-row
+add-row c = search needs
+
+add-column : tie.Need-add-column
+add-column c = search needs
+
 array-borrow-prefix-matrix : tie.Need-array-borrow-prefix-matrix
 array-borrow-prefix-matrix c = search needs
 
@@ -51,9 +57,6 @@ slice-aggregate-get-words c = sym (length-take-le _ (zeros 512) (omega (arith, s
 get-words-requires : tie.Need-get-words-requires
 get-words-requires c κs = let P = start c .pre in omega (arith, length-take-le (setup c .n * dim (setup c)) (zeros 512) (omega (arith, P .entries)), P .there)
 
-add-get-words : tie.Need-add-get-words
-add-get-words c = search needs
-
 array-borrow-prefix-shares : tie.Need-array-borrow-prefix-shares
 array-borrow-prefix-shares c = search needs
 
@@ -62,12 +65,6 @@ slice-aggregate-get-words-2 c = sym (length-take-le _ (zeros 8) (omega (arith, s
 
 get-words-requires-2 : tie.Need-get-words-requires-2
 get-words-requires-2 c κs = let m = before-shares c in let P = start m .pre in omega (arith, length-take-le (setup m .l) (zeros 8) (omega (arith, P .secret)), P .there)
-
-add-get-words-2 : tie.Need-add-get-words-2
-add-get-words-2 c = search needs
-
-add-get-words-3 : tie.Need-add-get-words-3
-add-get-words-3 c = search needs
 
 array-borrow-prefix-h : tie.Need-array-borrow-prefix-h
 array-borrow-prefix-h c = search needs
@@ -106,15 +103,14 @@ read-lists-spec =
     add-d
     cast-len
     mul-len
+    add-row
+    add-column
     array-borrow-prefix-matrix
     slice-aggregate-get-words
     get-words-requires
-    add-get-words
     array-borrow-prefix-shares
     slice-aggregate-get-words-2
     get-words-requires-2
-    add-get-words-2
-    add-get-words-3
     array-borrow-prefix-h
     slice-aggregate-get-words-3
     get-words-requires-3

@@ -5,12 +5,12 @@ use mathlib.Core.Path.{_≡_, refl, sym, ap, _∙_}
 use native.Mathlib.Omega.{arith}
 use lib.ListN.{length, drop}
 use lib.Seq.{length-take-le}
-use Rattle.base.specs.Rules.{refusal, refused, given}
-use Rattle.base.proofs.Rules.{declined, unchanged, accepted, written}
+use Rattle.base.specs.Rules.{refusal, given}
+use Rattle.base.proofs.Rules.{accepted, written}
 use Rattle.file_reading.specs.File.{readFile}
 use Rattle.holder_file.specs.Text.{textOf}
 use Rattle.holder_file.specs.Calls.{lentFile}
-use Rattle.holder_file.proofs.Laws.{lent-means, refused-is, refused-answer, refused-left, printed-left, printed-as, whole-answer, whole-left, contents, told-text, told-fits}
+use Rattle.holder_file.proofs.Laws.{lent-means, lent-declined, file-declined, printed-left, printed-as, whole-answer, whole-left, contents, told-text, told-fits}
 use borrow.Author.Needs.{needs}
 use Rattle.holder_file.proofs.holder_file.Statement.{statement}
 use Rattle.holder_file.proofs.holder_file.Tie as tie
@@ -40,7 +40,7 @@ lent-refusal-requires c κs = search needs
 returns : tie.Need-returns
 returns c =
     let l = c .before in
-    (ap refused (lent l) ∙ declined (declines l) _ (λ z. c .if1 .taken (lent l ∙ z)), unchanged (declines l) _ _ (λ z. c .if1 .taken (lent l ∙ z)))
+    lent-declined (file l) (buffer l) 256 (λ D. length (textOf D) ∷ []) (λ D. textOf D ++ drop (length (textOf D)) (buffer l)) _ (lent l) (c .if1 .taken)
 
 read-file-requires : tie.Need-read-file-requires
 read-file-requires c κs = lent-means (file (c .before)) (buffer (c .before)) 256 (fair c) .0
@@ -48,13 +48,8 @@ read-file-requires c κs = lent-means (file (c .before)) (buffer (c .before)) 25
 returns-2 : tie.Need-returns-2
 returns-2 c =
     let read = c .before in
-    let ok = read .before in
-    let l = ok .before in
-    let w = read .read-file .ensures in
-    let f = refused-is (readFile (file l)) _ _ (w .number) (w .byte) (c .if2 .taken) in (
-      refused-answer _ (readFile (file l)) _ _ f ∙ accepted (declines l) _ (fair ok),
-      written (declines l) _ _ _ (fair ok) (refused-left _ (readFile (file l)) _ _ (buffer l) f),
-    )
+    let l = read .before .before in
+    file-declined (file l) (buffer l) 256 (λ D. length (textOf D) ∷ []) (λ D. textOf D ++ drop (length (textOf D)) (buffer l)) _ (fair (read .before)) (read .read-file .ensures) (c .if2 .taken)
 
 -- a file that was read to its end
 abbrev whole : tie.After-struct-known → tie.Else2
