@@ -146,7 +146,7 @@ pub fn fate(s: Params, verdicts: &[u16]) -> Fate
 }
 
 // The first entries of g, as many as there are shares.
-pub fn keep_shares(g: &[u16], shares: &mut [u16])
+fn keep_shares(g: &[u16], shares: &mut [u16])
     requires { ⌜ length (now shares) ≤ length (now g) ⌝ }
     ensures { λ r. ⌜ now (shares .exit) ≡ take (length (now (shares .entry))) (now (g .entry)) ⌝ }
 {

@@ -1,21 +1,24 @@
 -- What an accepted reader says of what it was lent and of the record: the lengths that the code relies on, and that an SU read is a setup.
 use mathlib.Core.Path.{_≡_, refl, sym, ap, _∙_}
-use mathlib.Core.Bool.{Bool, false}
+use mathlib.Core.Bool.{Bool, false, not}
 use mathlib.Core.List.{List, [], _∷_, _++_}
-use Prim.Native.Nat.{ℕ, zero, suc, _*_, _≤_, _<_}
+use Prim.Native.Nat.{ℕ, zero, suc, _+_, _*_, _≤_, _<_}
 use native.Mathlib.Omega.{arith}
 use native.Mathlib.Nat.{mul-le-mul}
 use lib.Dec.{ltb}
 use lib.ListN.{length}
 use borrow.Author.Tests.{eq-eqb, ne-eqb, lt-ltb, le-ltb, ltb-false}
-use Rattle.base.specs.Rules.{Rule, _when_, refusalFrom, refusal}
+use Rattle.base.specs.Rules.{Rule, _when_, orWhen, refusalFrom, refusal}
+use Rattle.base.specs.Matrix.{allBelow}
 use Rattle.base.proofs.Rules.{clear, clear-left, joined, stays, refusal-after}
+use Rattle.scheme.specs.declared.Params.{Params}
 use Rattle.scheme.specs.Setup.{Setup, dim, Limits, IsSetup}
 use Rattle.scheme.specs.Calls.{limits, size, beyondField}
 use Rattle.scheme.proofs.Calls.{limits-are, limits-pos, size-is, size-clear, vec-of, in-order}
-use Rattle.record_layouts.specs.Words.{wordAt}
+use Rattle.record_layouts.specs.declared.DealingRecord.{DealingRecord}
+use Rattle.record_layouts.specs.Words.{wordAt, wordsAt}
 use Rattle.record_layouts.proofs.Words.{length-words}
-use Rattle.record_layouts.specs.Records.{due, Layout, markSU, setupSize, setupAt, dueSetup, readSetupRules, readMatrixRules, markDL, dealingSize, standingRules, dealingLayout, dealingLent, readDealingRules}
+use Rattle.record_layouts.specs.Records.{due, Layout, markSU, setupSize, setupAt, dueSetup, readSetupRules, readMatrixRules, paramsAt, markDL, dealingSize, dealingAt, dealingG, dealingH, dealingFaults, standingRules, dealingLayout, dealingLent, readDealingRules}
 
 -- a rule that does not hold leaves what stands
 pub passed-over : (r k : ℕ) (l : List Rule) → refusalFrom r ((k when false) ∷ l) ≡ refusalFrom r l
@@ -61,6 +64,11 @@ module _ (s : List ℕ) (k : ℕ) where
       refusal-after (due markSU 10 s) (limits (setupAt s) ++ afterLimits) (clear (due markSU 10 s) tt d)
       ∙ refusal-after (limits (setupAt s)) afterLimits (clear (limits (setupAt s)) tt e)
 
+  -- a whole record and a lent matrix of the length needed: the entries decide, as they are read with the numbers x and the length n
+  pub by-entries : (x : Params) (n r : ℕ) → x ≡ paramsAt s → n ≡ setupAt s .n * dim (setupAt s) → setupSize (setupAt s) ≤ length s → k ≡ n
+      → r ≡ orWhen 0 4 (not (allBelow (x .p) (wordsAt s 5 n))) → r ≡ refusal afterLimits
+  by-entries x n r e f w g h = rw (h, e, f) (simp (le-ltb (length s) (setupSize (setupAt s)) w, eq-eqb k (setupAt s .n * dim (setupAt s)) (g ∙ f)))
+
 -- an SU that is not refused is a setup, and it stands there whole
 pub setup-read : (s : List ℕ) → refusal (readSetupRules s) ≡ 0 → IsSetup (setupAt s) × (setupSize (setupAt s) ≤ length s)
 setup-read s e =
@@ -90,6 +98,15 @@ matrix-room s k e =
 -- DL
 pub dealing-whole : (S : Setup) (s : List ℕ) → refusal (due markDL (dealingSize S) s) ≡ 0 → dealingSize S ≤ length s
 dealing-whole S s e = ltb-false (length s) (dealingSize S) (clear (due markDL (dealingSize S) s) tt e .1 .1 .0)
+
+-- a whole record: its entries and its two numbers decide, as they are read with the length d
+pub by-parts : (S : Setup) (s : List ℕ) (d b c r : ℕ) (x : DealingRecord) → refusal (due markDL (dealingSize S) s) ≡ 0 → d ≡ dim S
+    → b ≡ orWhen 0 4 (not (allBelow (S .p) (wordsAt s 3 d))) → c ≡ orWhen b 4 (not (allBelow (S .p) (wordsAt s (3 + d) d)))
+    → x ≡ dealingAt s → r ≡ refusalFrom c (dealingFaults S x) → r ≡ refusal (standingRules dealingLayout S s)
+by-parts S s d b c r x z e i j k l =
+    rw (l, k, j, i, e)
+    (sym (refusal-after (due markDL (dealingSize S) s) (beyondField (S .p) (dealingG S s) ∷ beyondField (S .p) (dealingH S s) ∷ dealingFaults S (dealingAt s))
+    (clear (due markDL (dealingSize S) s) tt z)))
 
 pub parts-room : (S : Setup) (s : List ℕ) (j k : ℕ) → refusal (readDealingRules S s j k) ≡ 0
     → (j ≡ dim S) × (k ≡ dim S) × (dealingSize S ≤ length s)

@@ -115,7 +115,7 @@ pub fn word(s: &[u8], i: usize) -> u16
 }
 
 // The rule of `count` words from word i on that are field elements of p. It reads them all.
-pub fn or_words(standing: u16, s: &[u8], i: usize, count: usize, p: u16) -> u16
+fn or_words(standing: u16, s: &[u8], i: usize, count: usize, p: u16) -> u16
     requires { ⌜ 2 * (i + count) ≤ length (now s) ⌝ }
     ensures { λ r. ⌜ r ≡ orWhen standing 4 (not (allBelow p (wordsAt (now (s .entry)) i count))) ⌝ }
 {

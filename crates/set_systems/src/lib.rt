@@ -35,7 +35,7 @@ pub fn beyond(n: u16, set: u32) -> bool
 }
 
 // The members by rising holder, into the start of 32 lent entries; gives how many. What stands behind them is left as it was.
-pub fn walk(set: u32, out: &mut [u16]) -> usize
+fn walk(set: u32, out: &mut [u16]) -> usize
     requires { ⌜ length (now out) ≡ 32 ⌝ }
     ensures { λ r. ⌜ Walked set r (now (out .entry)) (now (out .exit)) ⌝ }
 {
@@ -51,7 +51,7 @@ pub fn walk(set: u32, out: &mut [u16]) -> usize
 }
 
 // Where the row of member i starts in the matrix.
-pub fn row_start(members: &[u16], i: usize, d: usize) -> usize
+fn row_start(members: &[u16], i: usize, d: usize) -> usize
     requires { ⌜ (i < length (now members)) × (d ≤ 16) ⌝ }
     ensures { λ r. ⌜ r ≡ getD (now (members .entry)) i 0 * d ⌝ }
 {

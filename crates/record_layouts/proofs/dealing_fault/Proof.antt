@@ -1,21 +1,17 @@
 -- A number that the mark or the length give stays; else the record is not cut short, and the entries and the two numbers decide.
 -- stands-whole: the record is not cut short
-use Prim.Native.Nat.{ℕ, _+_, _*_, _≤_}
-use mathlib.Core.Bool.{not}
+use Prim.Native.Nat.{_+_, _*_, _≤_}
 use mathlib.Core.List.{[], _∷_}
 use mathlib.Core.Path.{_≡_, sym, ap, _∙_}
 use native.Mathlib.Omega.{arith}
 use borrow.Author.Needs.{needs}
 use lib.ListN.{length}
-use Rattle.base.specs.Rules.{orWhen, refusalFrom, refusal}
-use Rattle.base.specs.Matrix.{allBelow}
-use Rattle.base.proofs.Rules.{refusal-after, stays, clear}
+use Rattle.base.specs.Rules.{refusal}
+use Rattle.base.proofs.Rules.{stays}
 use Rattle.scheme.specs.Setup.{setupOf}
 use Rattle.scheme.specs.Calls.{beyondField}
-use Rattle.record_layouts.specs.declared.DealingRecord.{DealingRecord}
-use Rattle.record_layouts.specs.Words.{wordsAt}
 use Rattle.record_layouts.specs.Records.{markDL, due, dealingSize, dealingAt, dealingG, dealingH, dealingFaults}
-use Rattle.record_layouts.proofs.Calls.{dealing-whole}
+use Rattle.record_layouts.proofs.Calls.{dealing-whole, by-parts}
 use Rattle.record_layouts.proofs.dealing_fault.Statement.{statement}
 use Rattle.record_layouts.proofs.dealing_fault.Tie as tie
 
@@ -71,19 +67,7 @@ returns-2 : tie.Need-returns-2
 returns-2 c =
     let w = c .before .before .before .before in
     let x = w .before .before .before .before .args in
-    let S = setupOf (x .s) [] in
-    let s = x .part .now in
-    let d = w .before .before .dim in
-    let two : ℕ → ℕ = λ n. orWhen (orWhen 0 4 (not (allBelow (S .p) (wordsAt s 3 n)))) 4 (not (allBelow (S .p) (wordsAt s (3 + n) n))) in
-    c .dealing-faults .ensures
-    ∙ ap (λ (y : DealingRecord). refusalFrom (c .before .before .or-words2 .result) (dealingFaults S y)) (c .before .dealing-at .ensures)
-    ∙ ap (λ b. refusalFrom b (dealingFaults S (dealingAt s)))
-    (c .before .before .or-words2 .ensures
-    ∙ ap (λ b. orWhen b 4 (not (allBelow (S .p) (wordsAt s (3 + d .result) (d .result))))) (c .before .before .before .or-words .ensures)
-    ∙ ap two (d .ensures .0))
-    ∙ sym
-    (refusal-after (due markDL (dealingSize S) s) (beyondField (S .p) (dealingG S s) ∷ beyondField (S .p) (dealingH S s) ∷ dealingFaults S (dealingAt s))
-    (clear (due markDL (dealingSize S) s) tt (sym (due-is (w .before)) ∙ w .if1 .left)))
+    by-parts (setupOf (x .s) []) (x .part .now) _ _ _ _ _ (sym (due-is (w .before)) ∙ w .if1 .left) (w .before .before .dim .ensures .0) (c .before .before .before .or-words .ensures) (c .before .before .or-words2 .ensures) (c .before .dealing-at .ensures) (c .dealing-faults .ensures)
 
 pub dealing-fault-spec : {M : Type 1} → statement M
 dealing-fault-spec =

@@ -2,22 +2,19 @@
 -- entries decide.
 -- due-none: the mark and the ten bytes are there; limits-are: what the limits give; len-is: the length needed
 use Prim.Native.Nat.{_+_, _*_, _≤_, _<_}
-use mathlib.Core.Bool.{not}
 use mathlib.Core.List.{[]}
 use mathlib.Core.Path.{_≡_, sym, ap, _∙_}
 use native.Mathlib.Nat.{mul-le-mul}
 use native.Mathlib.Omega.{arith}
 use borrow.Author.Needs.{needs}
-use borrow.Author.Tests.{lt-ltb, le-ltb, eq-eqb, ne-eqb}
+use borrow.Author.Tests.{lt-ltb, le-ltb, ne-eqb}
 use lib.ListN.{length}
-use Rattle.base.specs.Rules.{orWhen, refusal}
-use Rattle.base.specs.Matrix.{allBelow}
+use Rattle.base.specs.Rules.{refusal}
 use Rattle.scheme.specs.declared.Params.{Params}
 use Rattle.scheme.specs.Setup.{dim, setupOf}
 use Rattle.scheme.specs.Calls.{limits}
-use Rattle.record_layouts.specs.Words.{wordsAt}
 use Rattle.record_layouts.specs.Records.{markSU, due, setupAt, setupSize, readMatrixRules}
-use Rattle.record_layouts.proofs.Calls.{afterLimits, by-due, by-limits, past-limits}
+use Rattle.record_layouts.proofs.Calls.{afterLimits, by-due, by-limits, past-limits, by-entries}
 use Rattle.record_layouts.proofs.matrix_refusal.Statement.{statement}
 use Rattle.record_layouts.proofs.matrix_refusal.Tie as tie
 
@@ -91,15 +88,10 @@ returns-5 : tie.Need-returns-5
 returns-5 c =
     let w = c .before .before .before .before .before in
     let x = w .before .before .before .before .before .args in
-    let s = x .s .now in
-    let S = setupAt s in
-    let e = len-is w in
-    let whole : setupSize S ≤ length s = omega (arith, e, c .before .before .if3 .left) in
+    let S = setupAt (x .s .now) in
+    let whole : setupSize S ≤ length (x .s .now) = omega (arith, len-is w, c .before .before .if3 .left) in
     rw (past (c .before .before .before))
-    (c .or-words .ensures
-    ∙ ap (λ l. orWhen 0 4 (not (allBelow (w .before .params-at .result .p) (wordsAt s 5 l)))) e
-    ∙ ap (λ (y : Params). orWhen 0 4 (not (allBelow (y .p) (S .M)))) (w .before .params-at .ensures)
-    ∙ simp (le-ltb (length s) (setupSize S) whole, eq-eqb (x .room) (S .n * dim S) (c .before .if4 .left ∙ e)))
+    (by-entries (x .s .now) (x .room) _ _ _ (w .before .params-at .ensures) (len-is w) whole (c .before .if4 .left) (c .or-words .ensures))
 
 pub matrix-refusal-spec : {M : Type 1} → statement M
 matrix-refusal-spec =
