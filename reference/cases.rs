@@ -38,7 +38,7 @@ pub const CALLS: [Call; 26] = [
     call("judge", &[1, 2, 3, 4], 2, &[0, 1, 2], &[], Bytes::None),
     call("outcome", &[1, 2, 3, 4, 12], 2, &[0], &[2], Bytes::None),
     call("rehearse", &[1, 2, 3, 4], 3, &[0, 1, 2], &[], Bytes::None),
-    call("combine", &[1, 3, 4, 14], 1, &[0, 1], &[], Bytes::None),
+    call("combine", &[1, 3, 4], 1, &[0, 1], &[], Bytes::None),
     call("judge a set", &[1, 2, 3, 4, 5], 1, &[0], &[1], Bytes::None),
     call("determines", &[1, 2, 3, 4, 5], 1, &[0], &[], Bytes::None),
     call("private", &[1, 2, 3, 4, 5], 1, &[0], &[], Bytes::None),

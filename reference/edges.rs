@@ -436,7 +436,6 @@ fn fault(c: &mut Case, number: u16) {
         (5, 12) => c.words[1][0] = 2,
         (16, 12) => c.numbers[6] = 2,
         (22, 12) => put(&mut c.bytes, 3, 2),
-        (7, 14) => c.words = vec![vec![], vec![]],
         (0, 15) => c.numbers[0] = 2,
         _ => panic!("no such refusal: {} {number}", c.call),
     }

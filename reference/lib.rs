@@ -288,7 +288,6 @@ pub fn combine(p: u16, constants: &[u16], shares: &[u16]) -> Answer {
     f.when(3, constants.len() > 64 || shares.len() > 64);
     f.elements(p, constants);
     f.elements(p, shares);
-    f.when(14, constants.is_empty() && shares.is_empty());
     match f.lowest() {
         Some(k) => refused(k),
         None => given(&[dot(p, constants.iter().copied(), shares.iter().copied())]),

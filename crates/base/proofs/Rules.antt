@@ -1,19 +1,25 @@
 -- The laws of refusal tables. A table whose numbers rise gives the lowest that applies (lowest), and the answer 0 says that nothing does (clear,
 -- none-applies). Then tables in two parts, and answers and buffers by a number.
 -- positive: the numbers of a table are above 0, in whatever order they stand
+-- without: no rule of a table has the number k
 use Prim.Native.Nat.{ℕ, zero, suc, _≤_, _<_}
 use native.Mathlib.Nat.{le-refl, le-trans, not-suc-le-zero}
 use native.Mathlib.Omega.{arith}
-use mathlib.Core.Bool.{Bool, true, false, _&&_, false≢true}
+use mathlib.Core.Bool.{Bool, true, false, not, _&&_, false≢true}
 use mathlib.Core.List.{List, [], _∷_, _++_}
 use mathlib.Core.Path.{_≡_, refl, sym, ap, _∙_}
-use lib.Dec.{leb, ltb, T, leb→le}
+use lib.Dec.{eqb, leb, ltb, T, leb→le}
+use borrow.Author.Tests.{eq-eqb}
 use Rattle.base.specs.Rules.{Rule, _when_, orWhen, refusalFrom, refusal, rising, Rising, Applies, here, there, Lowest, Clear, Answer, refused, given, answerBy, leftBy}
 use Rattle.base.proofs.Choice.{T-left, T-right, T-both}
 
 abbrev pub positive : List Rule → Bool
 positive [] = true
 positive ((k when b) ∷ l) = ltb 0 k && positive l
+
+abbrev pub without : ℕ → List Rule → Bool
+without k [] = true
+without k ((j when b) ∷ l) = not (eqb j k) && without k l
 
 -- a number other than 0 stays, at one rule and to the end of a table
 pub stands : (r k : ℕ) (b : Bool) → (r ≡ 0 → ⊥) → r ≡ orWhen r k b
@@ -56,6 +62,14 @@ applies ((j when false) ∷ l) z = there (applies l z)
 
 pub lowest : (l : List Rule) → Rising l → Lowest l
 lowest l h = record { least = λ k a. let r = least-from l 1 k (omega arith) h a in (r .0, r .1); applies = applies l }
+
+-- a number that no rule has is not given
+without-applies : (k : ℕ) (l : List Rule) → T (without k l) → Applies l k → ⊥
+without-applies k ((_ when true) ∷ l) t here = rw (eq-eqb k k refl) at (T-left (not (eqb k k)) (without k l) t)
+without-applies k ((j when b) ∷ l) t (there w) = without-applies k l (T-right (not (eqb j k)) (without k l) t) w
+
+pub never : (k : ℕ) (l : List Rule) → 0 < k → T (without k l) → refusal l ≡ k → ⊥
+never k l pos t e = without-applies k l t (rw e at (applies l (rw e pos)))
 
 pub clear : (l : List Rule) → T (positive l) → refusal l ≡ 0 → Clear l
 clear [] t e = tt

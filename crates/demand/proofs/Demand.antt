@@ -7,12 +7,12 @@ use mathlib.Core.List.{List, [], _∷_}
 use mathlib.Core.Logic.{_⊎_, inl, inr}
 use mathlib.Core.Option.{Option, none, some, Option·none-ne-some}
 use Prim.Native.Nat.{ℕ, _+_, _-_, _*_, _%_, _^_, _≤_, _<_}
-use native.Mathlib.Nat.{mod-mod, mod-lt, mod-eq-of-lt}
+use native.Mathlib.Nat.{mod-mod, mod-lt, mod-eq-of-lt, zero-mod}
 use native.Mathlib.Omega.{arith}
 use borrow.Author.Tests.{eqb-true, eq-eqb, not-true, not-false, lt-ltb}
 use lib.Dec.{eqb, ltb}
 use lib.Arith.{digits-lt}
-use lib.ListN.{length, take}
+use lib.ListN.{length, take, replicate, length-replicate, getD-replicate}
 use lib.Seq.{ext-getD, getD-take, length-take-le}
 use Rattle.base.specs.Choice.{pick}
 use Rattle.base.specs.Rules.{Answer, refusal, given, leftBy}
@@ -32,10 +32,10 @@ use Rattle.scheme.specs.Answers.{accepts, kept, yes, inconsistent, paperJudgeme
 use Rattle.scheme.specs.Dealing.{place, dealtEntry, dealt, partG, partH, pairValue, expected, fateOf, outcome, shares}
 use Rattle.scheme.specs.Sets.{holds, members, rowAt, hasRow, determines}
 use Rattle.scheme.specs.Opening.{gives, opening, openedBy, combine}
-use Rattle.scheme.specs.Calls.{decide, judgeCall, judgeRules, outcomeRules, determinesCall, setRules, openRules, openCall, openLeft, openAnswer, combineRules, combineCall, pairValueRules, dealRules}
+use Rattle.scheme.specs.Calls.{judgeCall, judgeRules, outcomeRules, determinesCall, openRules, openCall, openLeft, openAnswer, combineRules, combineCall, pairValueRules, dealRules}
 use Rattle.demand.specs.Demand.{Dealing, Member, Keeps, Done, Terms, InLimits, constants, sharesOver, Present, Handed, handedIn, Array, column, IsArray, AgreesAt, Agrees, ExactlyOne, secretsOver, Opens, Refused, by-four, by-seven, Found, Honest, arrayDealt, HonestFound, FamilyFound, Demand3}
 use Rattle.base.proofs.Rules.{not-refused}
-use Rattle.scheme.proofs.Calls.{limits-prime, limits-pos, set-ok, SetOk, judge-accepts, outcome-ok, outcome-accepts, open-by-shares, combine-accepts, DealOk, deal-ok, below-vec}
+use Rattle.scheme.proofs.Calls.{limits-prime, limits-pos, SetOk, determines-ok, judge-accepts, outcome-ok, outcome-accepts, open-by-shares, combine-accepts, DealOk, deal-ok, below-vec}
 use Rattle.scheme.proofs.Verdicts.{accept-means, accept-when, kept-means, kept-when}
 use Rattle.scheme.proofs.Members.{member-at, place-of, members-wide}
 use Rattle.scheme.proofs.Sets.{theRow, theRow-is, same-secrets}
@@ -70,16 +70,6 @@ takes l v w hv hw same =
 
 one-value : (x y : ℕ) → given (x ∷ []) ≡ given (y ∷ []) → x ≡ y
 one-value x y e = ap (λ (a : Answer). at (a .values) 0) e
-
-decided : (b : Bool) → decide b ≡ yes → b ≡ true
-decided true e = refl
-decided false e = absurd (let z : _≡_ {A = ℕ} 0 1 = ap (λ (a : Answer). at (a .values) 0) e in omega arith)
-
--- a group that determines, by its call
-group-ok : (S : Setup) (group : ℕ) → determinesCall S group ≡ yes → SetOk S group × (determines S (holds group) ≡ true)
-group-ok S group e =
-    let r = not-refused (refusal (setRules S group)) (decide (determines S (holds group))) (1 ∷ []) e in
-    (set-ok S group (r .0), decided (determines S (holds group)) (r .1))
 
 -- EXACTLY ONE ARRAY
 module _ (S : Setup) (group : ℕ) (det : determines S (holds group) ≡ true) (D : Dealing) where
@@ -120,10 +110,10 @@ module _ (S : Setup) (group : ℕ) (det : determines S (holds group) ≡ true) (
 -- WHAT THE GROUP'S MEMBERS HAVE
 module _ (S : Setup) (group : ℕ) {I : Type 0} (D : I → Dealing) (done : Done S group D) where
   ok : SetOk S group
-  ok = group-ok S group (done .determined) .0
+  ok = determines-ok S group (done .determined) .0
 
   det : determines S (holds group) ≡ true
-  det = group-ok S group (done .determined) .1
+  det = determines-ok S group (done .determined) .1
 
   pos : 0 < S .p
   pos = limits-pos S (ok .setup .limits)
@@ -237,8 +227,8 @@ module _ (S : Setup) (group : ℕ) {I : Type 0} (D : I → Dealing) (done : Done
           field = ok .setup .limits .field;
           constants = rw long (tab-vec (S .p) (ts .count) (ts .constant) (λ t l. lim .constants t l));
           shares = rw long (tab-vec (S .p) (ts .count) _ (λ t l. share-small (ts .dealing t) i m (ts .column t) (lim .columns t l)));
-          few = omega (arith, long, lim .some-terms .1);
-        }) (omega (arith, long, lim .some-terms .0))) refl
+          few = omega (arith, long, lim .few);
+        })) refl
 
     met′ : (openers : ℕ) → openers < 2 ^ S .n → Present S group openers → (others : ℕ → ℕ)
         → Handed S group D ts openers (handedIn S group D ts openers others)
@@ -381,6 +371,11 @@ module _ (S : Setup) (group : ℕ) {I : Type 0} (D : I → Dealing) (done : Done
       sym (tab-is (S .l) _ 0 (column (arrayOf t) b) (array-is t .each b h .size)
       (λ k l. sym (combine-one (S .p) (at (column (arrayOf t) b) k) (array-is t .each b h .small k l))))
 
+  no-columns′ : (ts : Terms I) → ts .count ≡ 0 → secretsOver S arrayOf ts ≡ replicate (S .l) 0
+  no-columns′ ts e =
+      sym (tab-is (S .l) _ 0 (replicate (S .l) 0) (length-replicate {A = ℕ} (S .l) 0)
+      (λ k l. getD-replicate (S .l) k 0 0 l ∙ sym (combine-tab (S .p) (ts .count) (ts .constant) _ ∙ rw e (unfold dot sum in zero-mod (S .p)))))
+
   found′ : Found S group D
   unfolding xs
   found′ =
@@ -390,6 +385,7 @@ module _ (S : Setup) (group : ℕ) {I : Type 0} (D : I → Dealing) (done : Done
         opens = opens′;
         never-refused = never′;
         one-column = one-column′;
+        no-columns = no-columns′;
       }
 
 -- WHERE ALL FOLLOW THE RULES
@@ -490,10 +486,10 @@ module _ (S : Setup) (secrets random : List ℕ) (D : Dealing) (hon : Honest S s
   -- THE ARRAY DEALT. A group that determines has a member, and so the inputs of the dealing are known to be in order
   module _ (group : ℕ) (e : determinesCall S group ≡ yes) where
     prime : Prime (S .p)
-    prime = limits-prime S (group-ok S group e .0 .setup .limits)
+    prime = limits-prime S (determines-ok S group e .0 .setup .limits)
 
     holder : 0 < S .n
-    holder = group-ok S group e .0 .setup .limits .holders .0
+    holder = determines-ok S group e .0 .setup .limits .holders .0
 
     inputs : DealOk S secrets random
     inputs = dealing-ok 0 holder
@@ -534,7 +530,7 @@ module _ (S : Setup) (secrets random : List ℕ) (D : Dealing) (hon : Honest S s
         len = length-take-le (S .l) (tab (dim S) (λ k. entry (dim S) F k b)) (omega (arith, length-tab (dim S) (λ k. entry (dim S) F k b)))
 
     array′ : ExactlyOne S group D (arrayDealt S secrets random)
-    array′ = exactly-one S group (group-ok S group e .1) D (arrayDealt S secrets random) dealt-is dealt-agrees
+    array′ = exactly-one S group (determines-ok S group e .1) D (arrayDealt S secrets random) dealt-is dealt-agrees
 
   -- position k of column b is position k of secret vector b
   vectors′ : (k b : ℕ) → k < S .l → b < S .l → at (column (arrayDealt S secrets random) b) k ≡ entry (S .l) secrets b k
@@ -572,13 +568,13 @@ module _ (S : Setup) (secrets random : List ℕ) (D : Dealing) (hon : Honest S s
       big′ = prime s e .big
 
       lim : InLimits S ts
-      lim = record { some-terms = (omega arith, omega arith); columns = λ t l. h; constants = λ t l. big′ }
+      lim = record { few = omega arith; columns = λ t l. h; constants = λ t l. big′ }
 
       hand : Handed S s all ts s handed
       hand =
           record {
             limits = lim;
-            below = group-ok S s e .0 .inside;
+            below = determines-ok S s e .0 .inside;
             count = length-tab _ _;
             by-rule = λ a l t.
                 let m = member-at (S .n) (holds s) a l in
@@ -587,12 +583,12 @@ module _ (S : Setup) (secrets random : List ℕ) (D : Dealing) (hon : Honest S s
                 (combine-one (S .p) _ (share-small S s all (done′ s e) tt _ m b h) ∙ sym (getD-tab (length (members (S .n) (holds s))) _ 0 a l));
             present = unfold determines in every-all (S .l) _ (λ k l.
                 row-grows S (holds s) (λ i. holds s i && holds s i) k big′ (λ i m t. rw t refl)
-                (every-at (S .l) (hasRow S (holds s)) (unfold determines in group-ok S s e .1) k l));
+                (every-at (S .l) (hasRow S (holds s)) (unfold determines in determines-ok S s e .1) k l));
           }
 
       same-array : found-there .array tt ≡ arrayDealt S secrets random
       same-array =
-          only S s (group-ok S s e .1) D _ _ (found-there .one tt .array) (dealt-is s e) (found-there .one tt .agrees) (dealt-agrees s e)
+          only S s (determines-ok S s e .1) D _ _ (found-there .one tt .array) (dealt-is s e) (found-there .one tt .agrees) (dealt-agrees s e)
 
       column-is : column (arrayDealt S secrets random) b ≡ tab (S .l) (λ k. entry (S .l) secrets b k)
       column-is = tab-is (S .l) _ 0 _ (dealt-is s e .each b h .size) (λ k l. vectors′ k b l h)
@@ -616,7 +612,7 @@ module _ (S : Setup) {I : Type 0} (secrets random : I → List ℕ) (D : I → D
 
       same : (group : ℕ) → determinesCall S group ≡ yes → (F : Found S group D) (t : I) → F .array t ≡ dealtAt t
       same group e F t =
-          only S group (group-ok S group e .1) (D t) _ _ (F .one t .array) (dealt-is S (secrets t) (random t) (D t) (hon t) group e)
+          only S group (determines-ok S group e .1) (D t) _ _ (F .one t .array) (dealt-is S (secrets t) (random t) (D t) (hon t) group e)
           (F .one t .agrees) (dealt-agrees S (secrets t) (random t) (D t) (hon t) group e)
 
       opens-all : (group : ℕ) → determinesCall S group ≡ yes

@@ -4,3 +4,4 @@ pub mod Present
 pub mod Lists
 pub mod Back
 pub mod Files
+pub mod Retired

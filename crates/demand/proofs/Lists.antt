@@ -8,7 +8,7 @@ use mathlib.Core.Logic.{_⊎_, inl, inr}
 use Prim.Native.Nat.{ℕ, zero, suc, _<_}
 use native.Mathlib.Omega.{arith}
 use borrow.Author.Tests.{eqb-false}
-use lib.ListN.{getD}
+use lib.ListN.{length, getD}
 use Rattle.base.specs.Rules.{Answer, given}
 use Rattle.base.specs.Sum.{sum, bit, unit}
 use Rattle.base.specs.Search.{every, first, firstFrom, firstOf, firstVec, Vec}
@@ -117,7 +117,7 @@ done = record { determined = refl; keepers = keep; delivered = λ t i j mi mj. s
 pub limits : InLimits four terms
 limits =
     record {
-      some-terms = (omega arith, omega arith);
+      few = omega arith;
       columns = of-terms (λ t. terms .column t < 2) (omega arith) (omega arith) (omega arith);
       constants = of-terms (λ t. terms .constant t < 7) (omega arith) (omega arith) (omega arith);
     }
@@ -190,15 +190,26 @@ unfolding sum bit unit every firstOf firstVec tab tabFrom allBelow isField dot p
 honest-opened =
     family .opens 7 refl terms 7 _ (0 ∷ 0 ∷ []) (demand3 .met four 7 runs (family .done 7 refl) terms limits 7 (omega arith) refl (λ i. 0)) refl (λ i m. m)
 
--- THE LIMITS OF A LIST: 64 terms are within them, 65 and none are not
+-- THE LIMITS OF A LIST: 64 terms and none are within them, 65 are not
 abbrev pub many : ℕ → Terms Bool
 many k = record { count = k; constant = λ t. 6; dealing = λ t. true; column = λ t. 1 }
 
 pub sixty-four : InLimits four (many 64)
-sixty-four = record { some-terms = (omega arith, omega arith); columns = λ t l. omega arith; constants = λ t l. omega arith }
+sixty-four = record { few = omega arith; columns = λ t l. omega arith; constants = λ t l. omega arith }
 
 pub sixty-five : InLimits four (many 65) → ⊥
-sixty-five k = omega (arith, k .some-terms .1)
+sixty-five k = omega (arith, k .few)
 
-pub no-terms : InLimits four (many 0) → ⊥
-no-terms k = omega (arith, k .some-terms .0)
+pub no-terms : InLimits four (many 0)
+no-terms = record { few = omega arith; columns = λ t l. omega arith; constants = λ t l. omega arith }
+
+-- THE SUM OF NO COLUMNS: holders 0, 1 and 2 hand in 0, and holder 3 any number x. It opens to zeros, or is refused.
+pub handed-none : (x : ℕ) → Handed four 7 dealings (many 0) 15 (0 ∷ 0 ∷ 0 ∷ x ∷ [])
+unfolding sum bit unit every firstOf firstVec tab tabFrom dot members membersFrom isRow findRow hasRow determines combine
+handed-none x = demand3 .met four 7 dealings done (many 0) no-terms 15 (omega arith) refl (λ i. x)
+
+pub opened-none : (x : ℕ) (out : List ℕ) → length out ≡ 2
+    → Opens four 15 (0 ∷ 0 ∷ 0 ∷ x ∷ []) out (0 ∷ 0 ∷ []) ⊎ Refused four 15 (0 ∷ 0 ∷ 0 ∷ x ∷ []) out
+opened-none x out room =
+    let F = demand3 .found four 7 dealings done in
+    rw (F .no-columns (many 0) refl) at (F .opens (many 0) 15 (0 ∷ 0 ∷ 0 ∷ x ∷ []) out (handed-none x) room)

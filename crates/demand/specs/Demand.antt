@@ -13,7 +13,7 @@ use mathlib.Core.Bool.{true, _&&_}
 use mathlib.Core.List.{List, [], _∷_}
 use mathlib.Core.Logic.{_⊎_}
 use Prim.Native.Nat.{ℕ, _%_, _^_, _≤_, _<_}
-use lib.ListN.{length, getD, take}
+use lib.ListN.{length, getD, take, replicate}
 use Rattle.base.specs.Choice.{pick}
 use Rattle.base.specs.Rules.{refused, given}
 use Rattle.base.specs.Search.{Vec}
@@ -68,9 +68,10 @@ pub record Terms (I : Type 0) : Type 0 where
   pub dealing : ℕ → I
   pub column : ℕ → ℕ
 
--- "Within the limits: 1 to 64 terms, columns below ℓ, constants in the field"
+-- "Within the limits: 1 to 64 terms, columns below ℓ, constants in the field"; and none, by document 02, A1: "What the mission says of openings includes
+-- this sum of no columns"
 pub record InLimits (S : Setup) {I : Type 0} (ts : Terms I) : Type 0 where
-  pub some-terms : (1 ≤ ts .count) × (ts .count ≤ 64)
+  pub few : ts .count ≤ 64
   pub columns : (t : ℕ) → t < ts .count → ts .column t < S .l
   pub constants : (t : ℕ) → t < ts .count → ts .constant t < S .p
 
@@ -133,7 +134,7 @@ pub record ExactlyOne (S : Setup) (group : ℕ) (D : Dealing) (A : Array) : Type
   pub agrees : Agrees S group D A
   pub others : (B : Array) → IsArray S B → (B ≡ A → ⊥) → (b : ℕ) × (b < S .l) × (AgreesAt S group D B b → ⊥)
 
--- "position k of the opening is the sum over t of c_t times position k of column b_t of that dealing's array, modulo p"
+-- "position k of the opening is the sum over t of c_t times position k of column b_t of that dealing's array, modulo p"; over no terms it is 0
 abbrev pub secretsOver : Setup → {I : Type 0} → (I → Array) → Terms I → List ℕ
 secretsOver S A ts = tab (S .l) (λ k. combine (S .p) (constants ts) (tab (ts .count) (λ t. at (column (A (ts .dealing t)) (ts .column t)) k)))
 
@@ -149,7 +150,7 @@ pub data Refused (S : Setup) (openers : ℕ) (handed out : List ℕ) : Type 0 wh
 
 -- The mission's "exactly one array of secrets per dealing agrees with the shares that the rule-keepers kept"; "each opening of that combination gives
 -- exactly that combination of those secrets or is refused, but never where every opener is a rule-keeper". Document 01's "One column opened by itself is
--- the list of one term with constant 1."
+-- the list of one term with constant 1"; the sum of no columns is ℓ zeros.
 pub record Found (S : Setup) (group : ℕ) {I : Type 0} (D : I → Dealing) : Type 0 where
   pub array : I → Array
   pub one : (t : I) → ExactlyOne S group (D t) (array t)
@@ -160,6 +161,7 @@ pub record Found (S : Setup) (group : ℕ) {I : Type 0} (D : I → Dealing) : Ty
       → Opens S openers handed out (secretsOver S array ts)
   pub one-column : (t : I) (b : ℕ) → b < S .l
       → secretsOver S array (record { count = 1; constant = λ _. 1; dealing = λ _. t; column = λ _. b }) ≡ column (array t) b
+  pub no-columns : (ts : Terms I) → ts .count ≡ 0 → secretsOver S array ts ≡ replicate (S .l) 0
 
 -- WHERE ALL FOLLOW THE RULES
 

@@ -1,2 +1,3 @@
 pub mod Demand
 pub mod Files
+pub mod Retired

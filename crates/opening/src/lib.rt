@@ -1,9 +1,8 @@
 // Openings and combinations of shares, open calls. Each first works out its refusal by the table of scheme's specs/Calls.antt; where there is none `open`
 // eliminates the members' rows beside the shares, in buffers of its own, and reads the answer off.
 ghost use mathlib.Core.Path.{_≡_};
-ghost use mathlib.Core.Bool.{true, _&&_};
+ghost use mathlib.Core.Bool.{true};
 ghost use Prim.Native.Nat.{_+_};
-ghost use lib.Dec.{eqb};
 ghost use lib.ListN.{length};
 ghost use Rattle.base.specs.Rules.{refusal};
 ghost use Rattle.field.specs.Fields.{isField, orderOf};
@@ -84,30 +83,19 @@ pub fn open(s: Params, matrix: &[u16], set: u32, shares: &[u16], secrets: &mut [
 }
 
 // COMBINE
-fn both_empty(constants: &[u16], shares: &[u16]) -> bool
-    ensures { λ r. ⌜ r ≡ (eqb (length (now (constants .entry))) 0 && eqb (length (now (shares .entry))) 0) ⌝ }
-{
-    if constants.len() == 0 {
-        return shares.len() == 0;
-    }
-    false
-}
-
-// Refusals 3, 4 and 14 of `combine`: in a field 1 does not apply.
+// Refusals 3 and 4 of `combine`: in a field 1 does not apply.
 fn combine_refusal(p: u16, constants: &[u16], shares: &[u16]) -> u16
     requires { ⌜ isField p ≡ true ⌝ }
     ensures { λ r. ⌜ r ≡ refusal (combineRules p (now (constants .entry)) (now (shares .entry))) ⌝ }
 {
     let many = 64 < constants.len();
-    let empty = both_empty(constants, shares);
     let b = scheme::or_size(0, shares.len(), constants.len());
     let c = base::or_when(b, 3, many);
     let e = scheme::or_elements(c, p, constants);
-    let f = scheme::or_elements(e, p, shares);
-    base::or_when(f, 14, empty)
+    scheme::or_elements(e, p, shares)
 }
 
-// The sum of the products of constants and one holder's shares, in a field.
+// The sum of the products of constants and one holder's shares, in a field; of no shares it is 0.
 fn combine_in(field: Field, constants: &[u16], shares: &[u16]) -> Value
     requires { ⌜ isField (orderOf field) ≡ true ⌝ }
     ensures { λ r. ⌜ paperValue r ≡ combineCall (orderOf field) (now (constants .entry)) (now (shares .entry)) ⌝ }

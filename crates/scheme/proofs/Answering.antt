@@ -4,7 +4,7 @@ use mathlib.Core.Path.{_≡_, refl, sym, ap, _∙_}
 use mathlib.Core.Bool.{Bool, true, false, not, false≢true}
 use mathlib.Core.List.{List, [], _∷_}
 use mathlib.Core.Option.{Option, none, some, Option·none-ne-some}
-use Prim.Native.Nat.{ℕ, zero, suc, _*_, _/_, _%_, _^_, _≤_, _<_}
+use Prim.Native.Nat.{ℕ, zero, suc, _*_, _/_, _%_, _≤_}
 use native.Mathlib.Omega.{arith}
 use borrow.Author.Tests.{eqb-false, ne-eqb, not-true, not-false}
 use lib.Dec.{eqb, ltb}
@@ -14,10 +14,9 @@ use Rattle.base.specs.Rules.{Answer, refusal, given, answerBy}
 use Rattle.base.specs.Search.{first, First, found, missing, firstVec, Vec}
 use Rattle.base.specs.Matrix.{flat}
 use Rattle.base.proofs.Rules.{lowest}
-use Rattle.base.proofs.Matrix.{below-is}
 use Rattle.base.proofs.Search.{every-at, every-all, first-is, firstVec-sound, firstVec-complete}
 use Rattle.field.specs.Fields.{isField}
-use Rattle.scheme.specs.Setup.{Setup, dim, IsSetup}
+use Rattle.scheme.specs.Setup.{Setup, dim}
 use Rattle.scheme.specs.declared.Judgement.{Judgement}
 use Rattle.scheme.specs.declared.Judgement.the-variants.{Accept, Reject}
 use Rattle.scheme.specs.declared.Fate.{Fate}
@@ -28,8 +27,7 @@ use Rattle.scheme.specs.Sets.{holds, members, hasRow, hasSweep, kind, de
 use Rattle.scheme.specs.Opening.{gives, opening, openedBy, combine}
 use Rattle.scheme.specs.Calls.{decide, pointsRules, dealRules, dealAllRules, pairValueRules, judgeRules, outcomeRules, rehearseRules, setRules, judgeSetRules, openRules, openCall, combineRules}
 use Rattle.scheme.specs.Answering.{AllLowest, Marked, AllMarked, Answers, Behind, OpenAnswers, Answering}
-use Rattle.scheme.proofs.Calls.{points-accepts, deal-accepts, dealAll-accepts, pairValue-accepts, judge-accepts, outcome-accepts, rehearse-accepts, set-accepts, judgeSet-accepts, open-by-shares, combine-accepts}
-use Rattle.scheme.proofs.Members.{members-wide}
+use Rattle.scheme.proofs.Calls.{points-accepts, deal-accepts, dealAll-accepts, pairValue-accepts, judge-accepts, outcome-accepts, rehearse-accepts, set-accepts, judgeSet-accepts, open-accepts, combine-accepts}
 use Rattle.scheme.proofs.Certificates.{by-search, undetermined-in-hand}
 
 is-false : (b : Bool) → (b ≡ true → ⊥) → b ≡ false
@@ -38,44 +36,52 @@ is-false false h = refl
 
 -- WHAT STANDS BEHIND A TABLE
 -- an answer that is not refused
-Given : Answer → Type 0
+pub Given : Answer → Type 0
 Given a = a ≡ given (a .values)
+
+pub given-given : (vs : List ℕ) → Given (given vs)
+unfolding Given
+given-given vs = refl
+
+pub given-number : (a : Answer) → Given a → a .number ≡ 0
+unfolding Given
+given-number a e = ap (λ (x : Answer). x .number) e
 
 choice-given : (b : Bool) (x y : Answer) → Given x → Given y → Given (pick b x y)
 choice-given true x y a c = a
 choice-given false x y a c = c
 
-judgement-given : (j : Judgement) → Given (paperJudgement j)
+pub judgement-given : (j : Judgement) → Given (paperJudgement j)
 unfolding Given
 judgement-given Accept = refl
 judgement-given (Reject j) = refl
 
-fate-given : (f : Fate) → Given (paperFate f)
+pub fate-given : (f : Fate) → Given (paperFate f)
 unfolding Given
 fate-given Kept = refl
 fate-given (Aborted i) = refl
 
-rehearse-given : (S : Setup) (gs hs : List ℕ) → Given (rehearse S gs hs)
+pub rehearse-given : (S : Setup) (gs hs : List ℕ) → Given (rehearse S gs hs)
 unfolding Given rehearse
 rehearse-given S gs hs =
     let t = first (flat (S .n) (disagrees S gs hs)) (S .n * S .n) in
     choice-given (ltb t (S .n * S .n)) (disagree (t / S .n) (t % S .n)) fair refl refl
 
-decide-given : (b : Bool) → Given (decide b)
+pub decide-given : (b : Bool) → Given (decide b)
 unfolding Given
 decide-given b = choice-given b yes no refl refl
 
-kind-given : (S : Setup) (X : ℕ → Bool) (q : ℕ) → Given (kind S X q)
+pub kind-given : (S : Setup) (X : ℕ → Bool) (q : ℕ) → Given (kind S X q)
 unfolding Given kind
 kind-given S X q = choice-given (hasRow S X q) isARow (pick (hasSweep S X q) isAVector isNeither) refl (choice-given (hasSweep S X q) isAVector isNeither refl refl)
 
 -- an opening: the secrets, or 6, or 7
-data OpeningIs (S : Setup) (s : ℕ) (xs : List ℕ) : Type 0 where
+pub data OpeningIs (S : Setup) (s : ℕ) (xs : List ℕ) : Type 0 where
   secrets : determines S (holds s) ≡ true → Behind S s xs → (vs : List ℕ) → opening S (holds s) xs ≡ given vs → OpeningIs S s xs
   by-six : determines S (holds s) ≡ false → (q : ℕ) → opening S (holds s) xs ≡ undetermined q → OpeningIs S s xs
   by-seven : determines S (holds s) ≡ true → (Behind S s xs → ⊥) → opening S (holds s) xs ≡ inconsistent → OpeningIs S s xs
 
-opening-is : (S : Setup) (s : ℕ) (xs : List ℕ) → OpeningIs S s xs
+pub opening-is : (S : Setup) (s : ℕ) (xs : List ℕ) → OpeningIs S s xs
 unfolding determines
 opening-is S s xs = go (first lacks (S .l)) (first-is lacks (S .l))
   where
@@ -152,10 +158,6 @@ answers-by : (r : ℕ) (a : Answer) → r ≡ 0 → Given a → Answers (answerB
 unfolding Given
 answers-by r a e g = rw e (ap (λ (x : Answer). x .answered) g)
 
-given-given : (vs : List ℕ) → Given (given vs)
-unfolding Given
-given-given vs = refl
-
 open-answers : (S : Setup) (s : ℕ) (xs out : List ℕ) → refusal (openRules S s xs out) ≡ 0 → OpenAnswers S s xs out
 open-answers S s xs out fine = go (opening-is S s xs)
   where
@@ -206,17 +208,10 @@ answering =
       private = λ S s ok l. answers-by (refusal (setRules S s)) _ (set-accepts S s (record { setup = ok; inside = l })) (decide-given (isPrivate S (holds s)));
       judge-set = λ S s q out ok l m room.
           answers-by (refusal (judgeSetRules S s q out)) _ (judgeSet-accepts S s q out (record { setup = ok; inside = l }) room m) (kind-given S (holds s) q);
-      opening = λ S s xs out ok l v room. open-answers S s xs out (open-accepts S s xs out ok l v room);
+      opening = λ S s xs out ok l v room. open-answers S s xs out (open-accepts S s xs out (record { setup = ok; inside = l }) v room);
       combine = λ p k cs xs f few v w. answers-by (refusal (combineRules p cs xs)) _ (combined p k cs xs f few v w) (given-given _);
     }
   where
-    open-accepts : (S : Setup) (s : ℕ) (xs out : List ℕ) → IsSetup S → s < 2 ^ S .n → Vec (S .p) (length (members (S .n) (holds s))) xs → length out ≡ S .l
-        → refusal (openRules S s xs out) ≡ 0
-    open-accepts S s xs out ok l v room =
-        open-by-shares S s xs out (record { setup = ok; inside = l })
-        (v .size ∙ ap length (sym (members-wide (S .n) 32 s l (ok .limits .holders .1)))) room
-        ∙ rw (below-is (S .p) xs (λ k m. v .small k (omega (arith, v .size)))) refl
-
-    combined : (p k : ℕ) (cs xs : List ℕ) → isField p ≡ true → (1 ≤ k) × (k ≤ 64) → Vec p k cs → Vec p k xs → refusal (combineRules p cs xs) ≡ 0
+    combined : (p k : ℕ) (cs xs : List ℕ) → isField p ≡ true → k ≤ 64 → Vec p k cs → Vec p k xs → refusal (combineRules p cs xs) ≡ 0
     combined p k cs xs f few v w =
-        combine-accepts p cs xs (record { field = f; constants = rw (v .size) v; shares = rw (v .size) w; few = omega (arith, v .size) }) (omega (arith, v .size))
+        combine-accepts p cs xs (record { field = f; constants = rw (v .size) v; shares = rw (v .size) w; few = omega (arith, v .size) })

@@ -8,19 +8,22 @@ use Prim.Native.Nat.{ℕ, _+_, _-_, _*_, _^_, _≤_, _<_}
 use native.Mathlib.Omega.{arith}
 use lib.Dec.{eqb, leb, ltb, T}
 use lib.ListN.{length}
-use borrow.Author.Tests.{eqb-true, eq-eqb, ne-eqb, ltb-false, le-ltb, leb-false, lt-leb, not-false}
+use borrow.Author.Tests.{eqb-true, eq-eqb, ltb-false, le-ltb, leb-false, lt-leb, not-false}
 use Rattle.base.specs.Choice.{pick}
-use Rattle.base.specs.Rules.{Rule, _when_, refusal, Clear}
+use Rattle.base.specs.Rules.{Rule, _when_, refusal, Clear, Answer}
 use Rattle.base.specs.Search.{Vec}
 use Rattle.base.specs.Matrix.{allBelow, Below}
-use Rattle.base.proofs.Rules.{positive, positive-both, clear, none-applies, clear-left, clear-right, refusal-after}
+use Rattle.base.proofs.Rules.{positive, positive-both, clear, none-applies, clear-left, clear-right, refusal-after, not-refused}
 use Rattle.base.proofs.Matrix.{below-by, below-is}
 use Rattle.field.specs.Prime.{Prime}
 use Rattle.field.specs.Fields.{isField}
+use Rattle.field.specs.Dot.{at}
 use Rattle.field.proofs.Fields.{field-prime}
 use Rattle.scheme.specs.Setup.{Setup, dim, Limits, IsSetup}
-use Rattle.scheme.specs.Sets.{holds, members}
-use Rattle.scheme.specs.Calls.{outside, limits, Lent, elements, room, beyondField, sizes, inField, table, matrix, dealLent, beyond, pointsRules, dealRules, dealAllRules, pairValueRules, judgeRules, outcomeRules, rehearseRules, setRules, judgeSetRules, openRules, combineRules}
+use Rattle.scheme.specs.Answers.{yes}
+use Rattle.scheme.specs.Sets.{holds, members, determines}
+use Rattle.scheme.specs.Calls.{outside, limits, Lent, elements, room, beyondField, sizes, inField, table, matrix, dealLent, beyond, pointsRules, dealRules, dealAllRules, pairValueRules, judgeRules, outcomeRules, rehearseRules, setRules, decide, determinesCall, judgeSetRules, openRules, combineRules}
+use Rattle.scheme.proofs.Members.{members-wide}
 
 -- REFUSALS 1 TO 4, each test and its fact
 inside : (low high x : ℕ) → outside low high x ≡ false → (low ≤ x) × (x ≤ high)
@@ -294,6 +297,16 @@ module _ (S : Setup) (s : ℕ) where
   set-accepts k =
       accepts S (matrix S ∷ []) ((5 when beyond (S .n) s) ∷ []) (k .setup .limits) (k .setup .matrix, tt) (lt-leb (2 ^ S .n) s (k .inside), tt)
 
+decided : (b : Bool) → decide b ≡ yes → b ≡ true
+decided true e = refl
+decided false e = absurd (let z : _≡_ {A = ℕ} 0 1 = ap (λ (a : Answer). at (a .values) 0) e in omega arith)
+
+-- a set that determines, by its call
+pub determines-ok : (S : Setup) (s : ℕ) → determinesCall S s ≡ yes → SetOk S s × (determines S (holds s) ≡ true)
+determines-ok S s e =
+    let r = not-refused (refusal (setRules S s)) (decide (determines S (holds s))) (1 ∷ []) e in
+    (set-ok S s (r .0), decided (determines S (holds s)) (r .1))
+
 module _ (S : Setup) (s q : ℕ) (out : List ℕ) where
   abbrev judgeSet-own : List Rule
   judgeSet-own = (5 when beyond (S .n) s) ∷ (5 when leb (S .l) q) ∷ []
@@ -345,6 +358,11 @@ module _ (S : Setup) (s : ℕ) (xs out : List ℕ) where
       last true = refl
       last false = refl
 
+  pub open-accepts : SetOk S s → Vec (S .p) (length (members (S .n) (holds s))) xs → length out ≡ S .l → refusal (openRules S s xs out) ≡ 0
+  open-accepts k v b =
+      open-by-shares k (v .size ∙ ap length (sym (members-wide (S .n) 32 s (k .inside) (k .setup .limits .holders .1)))) b
+      ∙ rw (below-is (S .p) xs (λ i m. v .small i (omega (arith, v .size)))) refl
+
 -- COMBINE
 pub record CombineOk (p : ℕ) (cs xs : List ℕ) : Type 0 where
   pub field : isField p ≡ true
@@ -365,18 +383,12 @@ module _ (p : ℕ) (cs xs : List ℕ) where
         few = ltb-false 64 (length cs) (c .1 .1 .0);
       }
 
-  pub combine-accepts : CombineOk p cs xs → 0 < length cs → refusal (combineRules p cs xs) ≡ 0
-  combine-accepts k some =
+  pub combine-accepts : CombineOk p cs xs → refusal (combineRules p cs xs) ≡ 0
+  combine-accepts k =
       none-applies (combineRules p cs xs) (
         ap not (k .field),
         (
           size-clear (length xs) (length cs) (k .shares .size),
-          (
-            le-ltb 64 (length cs) (k .few),
-            (
-              elements-clear p _ cs (k .constants),
-              (elements-clear p _ xs (k .shares), (rw (ne-eqb (length cs) 0 (λ z. omega arith)) refl, tt)),
-            ),
-          ),
+          (le-ltb 64 (length cs) (k .few), (elements-clear p _ cs (k .constants), (elements-clear p _ xs (k .shares), tt))),
         ),
       )

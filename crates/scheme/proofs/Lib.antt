@@ -5,5 +5,6 @@ pub mod Members
 pub mod Sets
 pub mod Certificates
 pub mod Answering
+pub mod NoColumns
 pub mod Grows
 pub mod Cases

@@ -90,4 +90,4 @@ pub record Answering : Type 0 where
   pub judge-set : (S : Setup) (s q : ℕ) (out : List ℕ) → IsSetup S → s < 2 ^ S .n → q < S .l → length out ≡ 32 → Answers (judgeSetCall S s q out)
   pub opening : (S : Setup) (s : ℕ) (xs out : List ℕ) → IsSetup S → s < 2 ^ S .n → Vec (S .p) (length (members (S .n) (holds s))) xs → length out ≡ S .l
       → OpenAnswers S s xs out
-  pub combine : (p k : ℕ) (cs xs : List ℕ) → isField p ≡ true → (1 ≤ k) × (k ≤ 64) → Vec p k cs → Vec p k xs → Answers (combineCall p cs xs)
+  pub combine : (p k : ℕ) (cs xs : List ℕ) → isField p ≡ true → k ≤ 64 → Vec p k cs → Vec p k xs → Answers (combineCall p cs xs)

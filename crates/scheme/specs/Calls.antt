@@ -7,7 +7,7 @@
 -- matrix: the setup's matrix, lent; setupRules: the limits and the length of a matrix, with which many tables begin
 -- xRules, xCall, xLeft: the table, the answer and the buffer of call x
 use mathlib.Core.Path.{_≡_}
-use mathlib.Core.Bool.{Bool, true, not, _&&_, _||_}
+use mathlib.Core.Bool.{Bool, true, not, _||_}
 use mathlib.Core.List.{List, [], _∷_, _++_}
 use Prim.Native.Nat.{ℕ, _+_, _-_, _*_, _^_}
 use lib.Dec.{eqb, leb, ltb}
@@ -188,11 +188,11 @@ abbrev pub openLeft : Setup → ℕ → List ℕ → List ℕ → List ℕ
 openLeft S s xs out =
     leftBy (refusal (openRules S s xs out)) (leftBy (opening S (holds s) xs .number) (opening S (holds s) xs .values) out) out
 
--- COMBINE. "3: a lent length isn't the one needed, over 64 terms"; "14: a combination with both lists empty"
+-- COMBINE. "3: a lent length isn't the one needed, over 64 terms". Two empty lists are as long as each other, and so are taken (NoColumns.antt).
 abbrev pub combineRules : ℕ → List ℕ → List ℕ → List Rule
 combineRules p cs xs =
     (1 when not (isField p)) ∷ size (length xs) (length cs) ∷ (3 when ltb 64 (length cs))
-    ∷ beyondField p cs ∷ beyondField p xs ∷ (14 when eqb (length cs) 0 && eqb (length xs) 0) ∷ []
+    ∷ beyondField p cs ∷ beyondField p xs ∷ []
 
 abbrev pub combineCall : ℕ → List ℕ → List ℕ → Answer
 combineCall p cs xs = answerBy (refusal (combineRules p cs xs)) (given (combine p cs xs ∷ []))

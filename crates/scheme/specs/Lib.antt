@@ -5,4 +5,5 @@ pub mod Dealing
 pub mod Sets
 pub mod Opening
 pub mod Calls
+pub mod NoColumns
 pub mod Answering

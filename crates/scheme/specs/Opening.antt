@@ -31,6 +31,6 @@ opening S X xs =
     let q = first (λ k. not (hasRow S X k)) (S .l) in
     pick (ltb q (S .l)) (undetermined q) (openedBy (S .l) (firstVec (S .p) (dim S) (gives S (members (S .n) X) xs)))
 
--- "A combination takes constants and one holder's shares, 1 to 64 of each, and gives the sum of their products"
+-- "A combination takes constants and one holder's shares .. and gives the sum of their products"; the sum of none is 0
 unfoldable pub combine : ℕ → List ℕ → List ℕ → ℕ
 combine p cs xs = dot (length cs) (at cs) (at xs) % p

@@ -1,0 +1,181 @@
+-- Refusal 14 is retired: no table of refusals has a rule of that number, which is one computed test for each (never), and what stands behind a table is
+-- an answer with number 0, an opening's own 6 or 7, or what is read from a file: 11, 13 or the fault of a record.
+-- Other: another number than the retired one
+-- Goes: what has been seen of a file has no refusal of that number
+use mathlib.Core.Path.{_≡_, refl, sym, ap, _∙_}
+use mathlib.Core.Bool.{Bool, true, false, not, _&&_}
+use mathlib.Core.List.{List, [], _∷_}
+use Prim.Native.Nat.{ℕ, zero, suc, _+_}
+use native.Mathlib.Omega.{arith}
+use lib.Dec.{T, eqb, ltb, leb}
+use lib.ListN.{length, getD, drop}
+use Rattle.base.specs.Choice.{pick}
+use Rattle.base.specs.Rules.{Rule, refusal, Answer, refused, given, answerBy}
+use Rattle.base.proofs.Rules.{without, never}
+use Rattle.field.specs.Fields.{isField}
+use Rattle.field.specs.Dot.{at}
+use Rattle.scheme.specs.Setup.{Setup}
+use Rattle.scheme.specs.Dealing.{judgementOf, fateOf}
+use Rattle.scheme.specs.Sets.{holds, determines, isPrivate}
+use Rattle.scheme.specs.Opening.{opening}
+use Rattle.scheme.specs.Calls.{pointsRules, dealRules, dealAllRules, pairValueRules, judgeRules, outcomeRules, rehearseRules, setRules, judgeSetRules, openRules, combineRules}
+use Rattle.scheme.proofs.Answering.{Given, given-given, given-number, judgement-given, fate-given, rehearse-given, decide-given, kind-given, OpeningIs, secrets, by-six, by-seven, opening-is}
+use Rattle.record_layouts.specs.Words.{wordAt}
+use Rattle.record_layouts.specs.declared.PairRecord.{PairRecord}
+use Rattle.record_layouts.specs.declared.VerdictRecord.{VerdictRecord}
+use Rattle.record_layouts.specs.declared.DealingRecord.{DealingRecord}
+use Rattle.record_layouts.specs.Records.{markSU, markDL, markPV, markVD, pairSize, verdictSize, pairAt, verdictAt, setupAt, setupSize, dealingSize, dealingAt, dealingG, dealingH, parts, writeRules, readRules, writeSetupRules, readSetupRules, readMatrixRules, readDealingRules, standingRules, dealingLayout, pairLayout, verdictLayout, shareLayout}
+use Rattle.file_records.specs.declared.Head.{Head}
+use Rattle.file_records.specs.declared.Seen.{Seen}
+use Rattle.file_records.specs.Received.{pairRules, pairFault, verdictRules, verdictFault, markFault, refuse, takePair, takeVerdict, orTake, stepPair, stepVerdict, step, readFor, readReceived, begin, complete, lowered}
+use Rattle.file_reading.specs.Contents.{Contents, judgement, verdictOf}
+use Rattle.file_reading.specs.File.{FileRead, refusedAt, whole, numberOf, setupFault, dealingFault, headOf, contentsOf, ofContents, ofEnd, orRefused, ofReceived, ofDealing, readFile}
+use Rattle.holder_file.specs.Text.{textOf}
+use Rattle.holder_file.specs.Calls.{fileAnswer, lentFile}
+use Rattle.demand.specs.Retired.{retired, NotGiven, NeverGiven}
+
+abbrev Other : ℕ → Type 0
+Other k = k ≡ retired → ⊥
+
+-- TABLES AND WHAT STANDS BEHIND THEM
+by-table : (l : List Rule) → T (without retired l) → Other (refusal l)
+by-table l t = never retired l (omega arith) t
+
+answer-by : (l : List Rule) (a : Answer) → T (without retired l) → NotGiven a → NotGiven (answerBy (refusal l) a)
+answer-by l a t w = go (refusal l) (by-table l t)
+  where
+    go : (r : ℕ) → Other r → NotGiven (answerBy r a)
+    go zero n = w
+    go (suc r) n = n
+
+answered : (a : Answer) → Given a → NotGiven a
+answered a g e = omega (arith, e, given-number a g)
+
+-- a call that answers where its table passes
+answers : (l : List Rule) (a : Answer) → T (without retired l) → Given a → NotGiven (answerBy (refusal l) a)
+answers l a t g = answer-by l a t (answered a g)
+
+opening-other : (S : Setup) (s : ℕ) (xs : List ℕ) → Other (opening S (holds s) xs .number)
+opening-other S s xs = go (opening-is S s xs)
+  where
+    go : OpeningIs S s xs → Other (opening S (holds s) xs .number)
+    go (secrets d b vs e) = rw e (λ z. omega (arith, z))
+    go (by-six d q e) = rw e (λ z. omega (arith, z))
+    go (by-seven d n e) = rw e (λ z. omega (arith, z))
+
+-- FILES
+pick-other : (b : Bool) (j k : ℕ) → Other j → Other k → Other (pick b j k)
+pick-other true j k m n = m
+pick-other false j k m n = n
+
+Goes : Seen → Type 0
+Goes st = Other (st .refusal)
+
+pick-goes : (b : Bool) (x y : Seen) → Goes x → Goes y → Goes (pick b x y)
+pick-goes true x y m n = m
+pick-goes false x y m n = n
+
+-- a record with so many bytes to the file's end and that fault: cut short, taken or refused
+fault-goes : (b : Bool) (st taken : Seen) (k : ℕ) → Goes taken → Other k → Goes (pick b (refuse st 3) (orTake k st taken))
+unfolding Goes
+fault-goes true st taken k g n = λ z. omega (arith, z)
+fault-goes false st taken k g n = pick-goes (eqb k 0) taken (refuse st k) g n
+
+step-goes : (h : Head) (t : List ℕ) (st : Seen) → Goes st → Goes (step h t st)
+unfolding Goes step stepPair stepVerdict pairFault verdictFault markFault
+step-goes h t st g =
+    let m = wordAt t 0 in
+    let x = pairAt t in
+    let had = getD (st .values) (x .sender) 0 in
+    let y = verdictAt t in
+    let said = getD (st .verdicts) (y .holder) 0 in
+    let other = refuse st (markFault m) in
+    let pair = stepPair h (length t) x st in
+    let verdict = stepVerdict h (length t) y st in
+    pick-goes (ltb (length t) 2) (refuse st 3) (pick (eqb m markPV) pair (pick (eqb m markVD) verdict other)) (λ z. omega (arith, z))
+    (pick-goes (eqb m markPV) pair (pick (eqb m markVD) verdict other)
+    (fault-goes (ltb (length t) pairSize) st (takePair st x) (pairFault h x had) g (by-table (pairRules h x had) tt))
+    (pick-goes (eqb m markVD) verdict other
+    (fault-goes (ltb (length t) verdictSize) st (takeVerdict st y) (verdictFault h y said) g (by-table (verdictRules h y said) tt))
+    (pick-other (eqb m markSU) 10 (pick (eqb m markDL) 10 8) (λ z. omega (arith, z)) (pick-other (eqb m markDL) 10 8 (λ z. omega (arith, z)) (λ z. omega (arith, z))))))
+
+reading-goes : (k : ℕ) (h : Head) (s : List ℕ) (st : Seen) → Goes st → Goes (readFor k h s st)
+unfolding readFor
+reading-goes zero h s st g = g
+reading-goes (suc k) h s st g =
+    let r = step h (drop (st .at) s) st in
+    let n = step-goes h (drop (st .at) s) st g in
+    pick-goes (leb (length s) (st .at)) st (pick (eqb (r .refusal) 0) (readFor k h s r) r) g (pick-goes (eqb (r .refusal) 0) (readFor k h s r) r (reading-goes k h s r n) n)
+
+or-other : (k byte : ℕ) (r : FileRead) → Other k → Other (numberOf r) → Other (numberOf (orRefused k byte r))
+or-other zero byte r m n = n
+or-other (suc k) byte r m n = m
+
+pick-read : (b : Bool) (r q : FileRead) → Other (numberOf r) → Other (numberOf q) → Other (numberOf (pick b r q))
+pick-read true r q m n = m
+pick-read false r q m n = n
+
+end-other : (S : Setup) (x : DealingRecord) (g h : List ℕ) (st : Seen) (n : ℕ) → Other (numberOf (ofEnd S x g h st n))
+unfolding ofEnd ofContents
+end-other S x g h st n =
+    let C = contentsOf S x g h (lowered (S .n) (st .values)) (lowered (S .n) (st .verdicts)) in
+    pick-read (complete (S .n) (st .values) && complete (S .n) (st .verdicts)) _ (refusedAt 11 n)
+    (pick-read (eqb (at (C .verdicts) (C .holder)) (verdictOf (judgement C))) (whole C) (refusedAt 13 n) (λ z. omega (arith, z)) (λ z. omega (arith, z)))
+    (λ z. omega (arith, z))
+
+file-other : (s : List ℕ) → Other (numberOf (readFile s))
+unfolding Goes readFile ofDealing ofReceived setupFault dealingFault
+file-other s =
+    let S = setupAt s in
+    let t = drop (setupSize S) s in
+    let st = readReceived (headOf S (dealingAt t)) s (setupSize S + dealingSize S) in
+    or-other (setupFault s) 0 (ofDealing S s) (pick-other (eqb (length s) 0) 11 _ (λ z. omega (arith, z)) (by-table (readSetupRules s) tt))
+    (or-other (dealingFault S t) (setupSize S) (ofReceived S (dealingAt t) (dealingG S t) (dealingH S t) s)
+    (pick-other (eqb (length t) 0) 11 _ (λ z. omega (arith, z))
+    (pick-other (not (ltb (length t) 2) && eqb (wordAt t 0) markSU) 10 _ (λ z. omega (arith, z)) (by-table (standingRules dealingLayout S t) tt)))
+    (or-other (st .refusal) (st .at) (ofEnd S (dealingAt t) (dealingG S t) (dealingH S t) st (length s))
+    (reading-goes (length s) (headOf S (dealingAt t)) s (begin (setupSize S + dealingSize S)) (λ z. omega (arith, z)))
+    (end-other S (dealingAt t) (dealingG S t) (dealingH S t) st (length s))))
+
+read-not : (values : Contents → List ℕ) (x : FileRead) → Other (numberOf x) → NotGiven (fileAnswer values x)
+read-not values (refusedAt k byte) n = n
+read-not values (whole C) n = n
+
+-- EVERY CALL
+pub never-given : NeverGiven
+never-given =
+    record {
+      field = field-not;
+      points = λ S. answers (pointsRules S) _ tt (given-given []);
+      deal = λ S secrets random i g h. answers (dealRules S secrets random i g h) _ tt (given-given []);
+      deal-all = λ S secrets random gs hs. answers (dealAllRules S secrets random gs hs) _ tt (given-given []);
+      pair-value = λ S g i. answers (pairValueRules S g i) _ tt (given-given _);
+      judge = λ S h values. answers (judgeRules S h values) _ tt (judgement-given (judgementOf S h values));
+      outcome = λ S g verdicts out. answers (outcomeRules S g verdicts out) _ tt (fate-given (fateOf S verdicts));
+      rehearse = λ S gs hs. answers (rehearseRules S gs hs) _ tt (rehearse-given S gs hs);
+      determines = λ S s. answers (setRules S s) _ tt (decide-given (determines S (holds s)));
+      private = λ S s. answers (setRules S s) _ tt (decide-given (isPrivate S (holds s)));
+      judge-set = λ S s q out. answers (judgeSetRules S s q out) _ tt (kind-given S (holds s) q);
+      opening = λ S s xs out. answer-by (openRules S s xs out) _ tt (opening-other S s xs);
+      combine = λ p cs xs. answers (combineRules p cs xs) _ tt (given-given _);
+      write-setup = λ S out. answers (writeSetupRules S (length out)) _ tt (given-given []);
+      read-setup = λ s. answers (readSetupRules s) _ tt (given-given _);
+      read-matrix = λ s m. answers (readMatrixRules s (length m)) _ tt (given-given []);
+      write-dealing = λ S x g h out. answers (writeRules dealingLayout S (parts x g h) (length out)) _ tt (given-given []);
+      read-dealing = λ S s g h. answers (readDealingRules S s (length g) (length h)) _ tt (given-given _);
+      write-pair = λ S x out. answers (writeRules pairLayout S x (length out)) _ tt (given-given []);
+      read-pair = λ S s. answers (readRules pairLayout S [] s) _ tt (given-given _);
+      write-verdict = λ S x out. answers (writeRules verdictLayout S x (length out)) _ tt (given-given []);
+      read-verdict = λ S s. answers (readRules verdictLayout S [] s) _ tt (given-given _);
+      write-share = λ S x out. answers (writeRules shareLayout S x (length out)) _ tt (given-given []);
+      read-share = λ S s. answers (readRules shareLayout S [] s) _ tt (given-given _);
+      file-text = λ s out. answer-by (lentFile s out 256) _ tt (read-not (λ C. length (textOf C) ∷ []) (readFile s) (file-other s));
+      file-contents = λ s out. answer-by (lentFile s out 18) _ tt (read-not (λ C. []) (readFile s) (file-other s));
+    }
+  where
+    field-not : (p : ℕ) → NotGiven (pick (isField p) (given (p ∷ [])) (refused 1))
+    field-not p = go (isField p)
+      where
+        go : (b : Bool) → NotGiven (pick b (given (p ∷ [])) (refused 1))
+        go true z = omega (arith, z)
+        go false z = omega (arith, z)
