@@ -143,7 +143,7 @@ pub fn calls(t: &mut Table, w: &World) {
             },
         );
     }
-    for terms in [2, 64] {
+    for terms in [0, 2, 64] {
         let mut r = Random(terms as u64);
         let drawn: Vec<[Vec<u16>; 2]> = (0..TURN).map(|_| [r.elements(s.p, terms), r.elements(s.p, terms)]).collect();
         t.line(

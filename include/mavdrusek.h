@@ -24,7 +24,7 @@
  *  11  a file ends with a record missing
  *  12  a verdict is neither 0 nor 1
  *  13  in a file: the holder's own VD is not what its own judgement gives
- *  14  a combination with both lists empty
+ *  14  retired, and never given: a combination of no shares is 0
  *  15  points matrix with d + n above p
  * A reader tests the setup and the buffers that it is lent, then the mark, then the length, then the rest. (mavdrusek_read_setup_matrix knows the length
  * needed only from the record, and tests its buffer after the record's length.) In a file the first faulty record decides, and in it the mark, then the
@@ -84,7 +84,8 @@ uint16_t mavdrusek_outcome(uint16_t p, uint16_t l, uint16_t e, uint16_t n, const
 uint16_t mavdrusek_rehearse(uint16_t p, uint16_t l, uint16_t e, uint16_t n, const uint16_t *matrix, size_t matrix_len, const uint16_t *gs,
                             size_t gs_len, const uint16_t *hs, size_t hs_len, uint16_t *fair, uint16_t *checker, uint16_t *sender);
 
-/* The sum of the products of constants and one holder's shares, 1 to 64 of each. Refusals 1, 3, 4, 14. */
+/* The sum of the products of constants and one holder's shares, as many of the one as of the other and at most 64: its share of that combination of
+ * columns. With both lengths 0 it is 0, whichever holder asks (neither pointer may be null even then). Refusals 1, 3, 4. */
 uint16_t mavdrusek_combine(uint16_t p, const uint16_t *constants, size_t constants_len, const uint16_t *shares, size_t shares_len, uint16_t *value);
 
 /* ---- Sets and openings */

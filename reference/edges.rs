@@ -242,7 +242,7 @@ fn points_matrices(r: &mut Random, cases: &mut Vec<Case>) {
     }
 }
 
-/// Combinations of 0, 1, 64 and 65 terms, lists of one length and of two.
+/// Combinations of 0, 1, 64 and 65 terms, lists of one length and of two; over every field, and with a p that is none.
 fn combinations(r: &mut Random, cases: &mut Vec<Case>) {
     for p in PRIMES.into_iter().chain([0, 3, 65522]) {
         for (a, b) in [(0, 0), (0, 1), (1, 0), (1, 1), (1, 2), (63, 64), (64, 64), (64, 65), (65, 64), (65, 65), (0, 65)] {
@@ -254,6 +254,27 @@ fn combinations(r: &mut Random, cases: &mut Vec<Case>) {
                 vec![vec![p.wrapping_sub(1); a], vec![p.wrapping_sub(1); b]]
             };
             cases.push(c);
+        }
+    }
+}
+
+/// The sum of no columns, opened by every set of four holders: of those that determine both positions, one or none. Then by all four, one of them lying.
+fn sums_of_none(cases: &mut Vec<Case>) {
+    for p in PRIMES {
+        let none = combine(p, &[], &[]).values[0];
+        let mut open = |set: u32, shares: Vec<u16>| {
+            let words = vec![vec![1, 0, 0, 0, 1, 0, 0, 0, 1, 1, 1, 0], shares, vec![9; 2]];
+            let mut c = Case { call: 11, numbers: [p, 2, 1, 4, 0, 0, 0, 0], words, bytes: vec![] };
+            c.choose(set);
+            cases.push(c);
+        };
+        for set in 0..16u32 {
+            open(set, vec![none; set.count_ones() as usize]);
+        }
+        for liar in 0..4 {
+            let mut shares = vec![none; 4];
+            shares[liar] = 1;
+            open(15, shares);
         }
     }
 }
@@ -557,6 +578,7 @@ pub fn edges(r: &mut Random) -> Vec<Case> {
     sets(r, &mut cases);
     points_matrices(r, &mut cases);
     combinations(r, &mut cases);
+    sums_of_none(&mut cases);
     disagreements(r, &mut cases);
     records(r, &mut cases);
     priorities(r, &mut cases);

@@ -73,7 +73,7 @@ pub const SHARE_BYTES: usize = 10;
 pub const MOST_FILE_BYTES: usize = 4096;
 
 /// Why a call declined. Where more than one applies, a call gives the one with the lowest number; a reader judges the setup it is given, then
-/// the mark, then the length, then the rest.
+/// the mark, then the length, then the rest. Number 14 is retired: no call gives it, and it has no case here.
 #[derive(Clone, Copy, Debug, PartialEq, Eq, Hash)]
 pub enum Refusal {
     /// 1: p is none of the five primes.
@@ -106,8 +106,6 @@ pub enum Refusal {
     NoVerdict,
     /// 13: in a file the holder's own VD is not what its own judgement gives.
     OwnVerdict,
-    /// 14: a combination with both lists empty.
-    NoTerms,
     /// 15: a points matrix with d + n above p.
     TooFewPoints,
 }
@@ -129,7 +127,6 @@ impl Refusal {
             Refusal::Missing => 11,
             Refusal::NoVerdict => 12,
             Refusal::OwnVerdict => 13,
-            Refusal::NoTerms => 14,
             Refusal::TooFewPoints => 15,
         }
     }
@@ -151,7 +148,6 @@ impl fmt::Display for Refusal {
             Refusal::Missing => "the file ends with a record missing",
             Refusal::NoVerdict => "a verdict is neither 0 nor 1",
             Refusal::OwnVerdict => "the own verdict is not what the own judgement gives",
-            Refusal::NoTerms => "a combination of nothing",
             Refusal::TooFewPoints => "the field has fewer than d + n elements",
         };
         write!(f, "refused {}: {why}", self.number())
@@ -177,7 +173,6 @@ fn answer(number: u16, position: u16) -> Result<(), Refusal> {
         11 => Refusal::Missing,
         12 => Refusal::NoVerdict,
         13 => Refusal::OwnVerdict,
-        14 => Refusal::NoTerms,
         15 => Refusal::TooFewPoints,
         other => unreachable!("the linked library gave {other}, which no call gives"),
     })
@@ -678,7 +673,8 @@ pub fn field(p: u16) -> Result<(), Refusal> {
     answer(unsafe { raw::mavdrusek_field(p) }, 0)
 }
 
-/// The sum of the products of constants and one holder's shares, 1 to 64 of each: its share of that combination of columns. Refusals 1, 3, 4, 14.
+/// The sum of the products of constants and one holder's shares, as many of the one as of the other and at most [`MOST_TERMS`]: its share of that
+/// combination of columns. With two empty slices it is 0, whichever holder asks. Refusals 1, 3, 4.
 pub fn combine(p: u16, constants: &[u16], shares: &[u16]) -> Result<u16, Refusal> {
     let mut value = 0;
     let number = unsafe { raw::mavdrusek_combine(p, constants.as_ptr(), constants.len(), shares.as_ptr(), shares.len(), &mut value) };

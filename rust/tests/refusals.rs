@@ -21,7 +21,6 @@ fn numbers() {
         (Refusal::Missing, 11),
         (Refusal::NoVerdict, 12),
         (Refusal::OwnVerdict, 13),
-        (Refusal::NoTerms, 14),
         (Refusal::TooFewPoints, 15),
     ];
     for (refusal, number) in all {
@@ -38,6 +37,7 @@ fn no_field() {
     for p in [0, 1, 3, 8, 256, 65535] {
         assert_eq!(field(p), Err(Refusal::NoField));
         assert_eq!(combine(p, &[1], &[1]), Err(Refusal::NoField));
+        assert_eq!(combine(p, &[], &[]), Err(Refusal::NoField));
     }
     // 1 comes before all that is wrong beside it.
     let wrong = Setup { p: 0, l: 0, e: 65535, n: 65535 };
@@ -65,7 +65,7 @@ fn limits() {
     }
 }
 
-/// Every call on a sound setup with empty slices.
+/// Every call on a sound setup with empty slices, but for a combination, which answers.
 #[test]
 fn empty_slices() {
     assert_eq!(SETUP.points(&mut []), Err(Refusal::Length));
@@ -94,7 +94,6 @@ fn empty_slices() {
     assert_eq!(SETUP.read_verdict(&[]), Err(Refusal::Length));
     assert_eq!(SETUP.read_share(&[]).err(), Some(Refusal::Length));
     assert_eq!(read_file(&[]).err(), Some(FileRefusal { refusal: Refusal::Missing, byte: Some(0) }));
-    assert_eq!(combine(7, &[], &[]), Err(Refusal::NoTerms));
 }
 
 /// One entry too many or too few in one slice at a time.
@@ -121,7 +120,10 @@ fn lengths() {
     assert_eq!(SETUP.open(&m, 0b101, &[0, 2, 4], &mut [9]), Err(Refusal::Length));
     assert_eq!(combine(7, &[1; 65], &[1; 65]), Err(Refusal::Length));
     assert_eq!(combine(7, &[1; 64], &[1; 64]), Ok(1));
-    assert_eq!(combine(7, &[], &[1]), Err(Refusal::Length));
+    for p in PRIMES {
+        assert_eq!(combine(p, &[], &[1]), Err(Refusal::Length));
+        assert_eq!(combine(p, &[1], &[]), Err(Refusal::Length));
+    }
     // As many shares as there are ones among all 32 bits of the set.
     assert_eq!(SETUP.open(&m, 0b1001, &[0, 4], &mut [9]), Err(Refusal::Range));
     assert_eq!(SETUP.open(&m, 0b1001, &[0], &mut [9]), Err(Refusal::Length));

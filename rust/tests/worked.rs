@@ -1,6 +1,6 @@
 //! The worked example of document 01: p 7, ℓ 1, e 1, n 3, points rows (6,2), (5,3), (4,4), F rows (3,1), (5,2).
 
-use mavdrusek::{combine, Judgement, Outcome, Refusal, Rehearsal, SetKind, Setup, Verdict};
+use mavdrusek::{combine, Judgement, Outcome, Refusal, Rehearsal, SetKind, Setup, Verdict, PRIMES};
 
 const SETUP: Setup = Setup { p: 7, l: 1, e: 1, n: 3 };
 const MATRIX: [u16; 6] = [6, 2, 5, 3, 4, 4];
@@ -99,6 +99,21 @@ fn combinations() {
     assert_eq!(doubled, [0, 4, 1]);
     assert_eq!(open(0b111, &doubled), Ok(6));
     assert_eq!(combine(7, &[1, 6, 3], &[5, 2, 4]), Ok(1)); // 5 + 12 + 12 = 29
+}
+
+/// The sum of no columns: its share is 0 over every field, and every set that determines the secret opens it to 0, whatever was lent. A liar beside such
+/// a set is refused.
+#[test]
+fn no_columns() {
+    for p in PRIMES {
+        assert_eq!(combine(p, &[], &[]), Ok(0));
+    }
+    let share = combine(7, &[], &[]).unwrap();
+    for set in [0b011, 0b101, 0b110, 0b111u32] {
+        assert_eq!(open(set, &vec![share; set.count_ones() as usize]), Ok(0));
+    }
+    assert_eq!(open(0b001, &[share]), Err(Refusal::Undetermined { position: 0 }));
+    assert_eq!(open(0b111, &[share, share, 1]), Err(Refusal::Inconsistent));
 }
 
 #[test]

@@ -1,4 +1,4 @@
--- Cases on tests: equal or not, and the two parts of a conjunction.
+-- Cases on tests: equal or not, the two parts of a conjunction, and what is picked.
 use mathlib.Core.Path.{_≡_, refl}
 use mathlib.Core.Bool.{Bool, true, false, _&&_, false≢true}
 use mathlib.Core.Logic.{_⊎_, inl, inr}
@@ -6,6 +6,7 @@ use Prim.Native.Nat.{ℕ, suc, _<_}
 use native.Mathlib.Omega.{arith}
 use lib.Dec.{eqb, ltb, T}
 use borrow.Author.Tests.{eqb-true, eqb-false, ltb-true, ltb-false}
+use Rattle.base.specs.Choice.{pick}
 
 pub either : (i j : ℕ) (Z : Type 0) → (i ≡ j → Z) → ((i ≡ j → ⊥) → Z) → Z
 either i j Z f g = go (eqb i j) refl
@@ -45,3 +46,8 @@ T-right false b h = absurd h
 pub T-both : (a b : Bool) → T a → T b → T (a && b)
 T-both true b h k = k
 T-both false b h k = h
+
+-- what holds of both holds of the one picked
+pub picked : {A : Type 0} (P : A → Type 0) (b : Bool) (x y : A) → P x → P y → P (pick b x y)
+picked P true x y h k = h
+picked P false x y h k = k

@@ -1,5 +1,6 @@
 pub mod Demand
 pub mod Honest
+pub mod NoColumns
 pub mod Present
 pub mod Lists
 pub mod Back

@@ -1,16 +1,18 @@
 -- Refusal 14 is retired: no table of refusals has a rule of that number, which is one computed test for each (never), and what stands behind a table is
 -- an answer with number 0, an opening's own 6 or 7, or what is read from a file: 11, 13 or the fault of a record.
 -- Other: another number than the retired one
--- Goes: what has been seen of a file has no refusal of that number
-use mathlib.Core.Path.{_≡_, refl, sym, ap, _∙_}
+-- Goes, Reads: what has been seen of a file, and what is read of it, is not refused by that number
+use mathlib.Core.Path.{_≡_, refl}
 use mathlib.Core.Bool.{Bool, true, false, not, _&&_}
 use mathlib.Core.List.{List, [], _∷_}
 use Prim.Native.Nat.{ℕ, zero, suc, _+_}
 use native.Mathlib.Omega.{arith}
+use borrow.Author.Tests.{eqb-false}
 use lib.Dec.{T, eqb, ltb, leb}
 use lib.ListN.{length, getD, drop}
 use Rattle.base.specs.Choice.{pick}
 use Rattle.base.specs.Rules.{Rule, refusal, Answer, refused, given, answerBy}
+use Rattle.base.proofs.Choice.{picked}
 use Rattle.base.proofs.Rules.{without, never}
 use Rattle.field.specs.Fields.{isField}
 use Rattle.field.specs.Dot.{at}
@@ -21,8 +23,6 @@ use Rattle.scheme.specs.Opening.{opening}
 use Rattle.scheme.specs.Calls.{pointsRules, dealRules, dealAllRules, pairValueRules, judgeRules, outcomeRules, rehearseRules, setRules, judgeSetRules, openRules, combineRules}
 use Rattle.scheme.proofs.Answering.{Given, given-given, given-number, judgement-given, fate-given, rehearse-given, decide-given, kind-given, OpeningIs, secrets, by-six, by-seven, opening-is}
 use Rattle.record_layouts.specs.Words.{wordAt}
-use Rattle.record_layouts.specs.declared.PairRecord.{PairRecord}
-use Rattle.record_layouts.specs.declared.VerdictRecord.{VerdictRecord}
 use Rattle.record_layouts.specs.declared.DealingRecord.{DealingRecord}
 use Rattle.record_layouts.specs.Records.{markSU, markDL, markPV, markVD, pairSize, verdictSize, pairAt, verdictAt, setupAt, setupSize, dealingSize, dealingAt, dealingG, dealingH, parts, writeRules, readRules, writeSetupRules, readSetupRules, readMatrixRules, readDealingRules, standingRules, dealingLayout, pairLayout, verdictLayout, shareLayout}
 use Rattle.file_records.specs.declared.Head.{Head}
@@ -37,6 +37,9 @@ use Rattle.demand.specs.Retired.{retired, NotGiven, NeverGiven}
 abbrev Other : ℕ → Type 0
 Other k = k ≡ retired → ⊥
 
+is-other : (k : ℕ) → eqb k retired ≡ false → Other k
+is-other k e = eqb-false k retired e
+
 -- TABLES AND WHAT STANDS BEHIND THEM
 by-table : (l : List Rule) → T (without retired l) → Other (refusal l)
 by-table l t = never retired l (omega arith) t
@@ -48,104 +51,97 @@ answer-by l a t w = go (refusal l) (by-table l t)
     go zero n = w
     go (suc r) n = n
 
-answered : (a : Answer) → Given a → NotGiven a
-answered a g e = omega (arith, e, given-number a g)
-
 -- a call that answers where its table passes
 answers : (l : List Rule) (a : Answer) → T (without retired l) → Given a → NotGiven (answerBy (refusal l) a)
-answers l a t g = answer-by l a t (answered a g)
+answers l a t g = answer-by l a t (rw (given-number a g) (is-other 0 refl))
 
 opening-other : (S : Setup) (s : ℕ) (xs : List ℕ) → Other (opening S (holds s) xs .number)
 opening-other S s xs = go (opening-is S s xs)
   where
     go : OpeningIs S s xs → Other (opening S (holds s) xs .number)
-    go (secrets d b vs e) = rw e (λ z. omega (arith, z))
-    go (by-six d q e) = rw e (λ z. omega (arith, z))
-    go (by-seven d n e) = rw e (λ z. omega (arith, z))
+    go (secrets d b vs e) = rw e (is-other 0 refl)
+    go (by-six d q e) = rw e (is-other 6 refl)
+    go (by-seven d n e) = rw e (is-other 7 refl)
 
 -- FILES
-pick-other : (b : Bool) (j k : ℕ) → Other j → Other k → Other (pick b j k)
-pick-other true j k m n = m
-pick-other false j k m n = n
-
-Goes : Seen → Type 0
+abbrev Goes : Seen → Type 0
 Goes st = Other (st .refusal)
 
-pick-goes : (b : Bool) (x y : Seen) → Goes x → Goes y → Goes (pick b x y)
-pick-goes true x y m n = m
-pick-goes false x y m n = n
-
--- a record with so many bytes to the file's end and that fault: cut short, taken or refused
-fault-goes : (b : Bool) (st taken : Seen) (k : ℕ) → Goes taken → Other k → Goes (pick b (refuse st 3) (orTake k st taken))
-unfolding Goes
-fault-goes true st taken k g n = λ z. omega (arith, z)
-fault-goes false st taken k g n = pick-goes (eqb k 0) taken (refuse st k) g n
+-- a record of a file: cut short, or taken, or refused by the fault k
+record-goes : (short : Bool) (st taken : Seen) (k : ℕ) → Goes taken → Other k → Goes (pick short (refuse st 3) (orTake k st taken))
+record-goes short st taken k g n =
+    picked Goes short (refuse st 3) (orTake k st taken) (is-other 3 refl) (picked Goes (eqb k 0) taken (refuse st k) g n)
 
 step-goes : (h : Head) (t : List ℕ) (st : Seen) → Goes st → Goes (step h t st)
-unfolding Goes step stepPair stepVerdict pairFault verdictFault markFault
+unfolding step stepPair stepVerdict pairFault verdictFault markFault
 step-goes h t st g =
-    let m = wordAt t 0 in
+    let mark = wordAt t 0 in
     let x = pairAt t in
     let had = getD (st .values) (x .sender) 0 in
     let y = verdictAt t in
     let said = getD (st .verdicts) (y .holder) 0 in
-    let other = refuse st (markFault m) in
+    let unknown = refuse st (markFault mark) in
     let pair = stepPair h (length t) x st in
     let verdict = stepVerdict h (length t) y st in
-    pick-goes (ltb (length t) 2) (refuse st 3) (pick (eqb m markPV) pair (pick (eqb m markVD) verdict other)) (λ z. omega (arith, z))
-    (pick-goes (eqb m markPV) pair (pick (eqb m markVD) verdict other)
-    (fault-goes (ltb (length t) pairSize) st (takePair st x) (pairFault h x had) g (by-table (pairRules h x had) tt))
-    (pick-goes (eqb m markVD) verdict other
-    (fault-goes (ltb (length t) verdictSize) st (takeVerdict st y) (verdictFault h y said) g (by-table (verdictRules h y said) tt))
-    (pick-other (eqb m markSU) 10 (pick (eqb m markDL) 10 8) (λ z. omega (arith, z)) (pick-other (eqb m markDL) 10 8 (λ z. omega (arith, z)) (λ z. omega (arith, z))))))
+    picked Goes (ltb (length t) 2) (refuse st 3) (pick (eqb mark markPV) pair (pick (eqb mark markVD) verdict unknown)) (is-other 3 refl)
+    (picked Goes (eqb mark markPV) pair (pick (eqb mark markVD) verdict unknown)
+    (record-goes (ltb (length t) pairSize) st (takePair st x) (pairFault h x had) g (by-table (pairRules h x had) tt))
+    (picked Goes (eqb mark markVD) verdict unknown
+    (record-goes (ltb (length t) verdictSize) st (takeVerdict st y) (verdictFault h y said) g (by-table (verdictRules h y said) tt))
+    (picked Other (eqb mark markSU) 10 (pick (eqb mark markDL) 10 8) (is-other 10 refl)
+    (picked Other (eqb mark markDL) 10 8 (is-other 10 refl) (is-other 8 refl)))))
 
 reading-goes : (k : ℕ) (h : Head) (s : List ℕ) (st : Seen) → Goes st → Goes (readFor k h s st)
 unfolding readFor
 reading-goes zero h s st g = g
 reading-goes (suc k) h s st g =
     let r = step h (drop (st .at) s) st in
+    let rest = readFor k h s r in
     let n = step-goes h (drop (st .at) s) st g in
-    pick-goes (leb (length s) (st .at)) st (pick (eqb (r .refusal) 0) (readFor k h s r) r) g (pick-goes (eqb (r .refusal) 0) (readFor k h s r) r (reading-goes k h s r n) n)
+    picked Goes (leb (length s) (st .at)) st (pick (eqb (r .refusal) 0) rest r) g
+    (picked Goes (eqb (r .refusal) 0) rest r (reading-goes k h s r n) n)
 
-or-other : (k byte : ℕ) (r : FileRead) → Other k → Other (numberOf r) → Other (numberOf (orRefused k byte r))
-or-other zero byte r m n = n
-or-other (suc k) byte r m n = m
+abbrev Reads : FileRead → Type 0
+Reads x = Other (numberOf x)
 
-pick-read : (b : Bool) (r q : FileRead) → Other (numberOf r) → Other (numberOf q) → Other (numberOf (pick b r q))
-pick-read true r q m n = m
-pick-read false r q m n = n
+or-reads : (k byte : ℕ) (r : FileRead) → Other k → Reads r → Reads (orRefused k byte r)
+or-reads zero byte r m n = n
+or-reads (suc k) byte r m n = m
 
-end-other : (S : Setup) (x : DealingRecord) (g h : List ℕ) (st : Seen) (n : ℕ) → Other (numberOf (ofEnd S x g h st n))
+end-reads : (S : Setup) (x : DealingRecord) (g h : List ℕ) (st : Seen) (n : ℕ) → Reads (ofEnd S x g h st n)
 unfolding ofEnd ofContents
-end-other S x g h st n =
+end-reads S x g h st n =
     let C = contentsOf S x g h (lowered (S .n) (st .values)) (lowered (S .n) (st .verdicts)) in
-    pick-read (complete (S .n) (st .values) && complete (S .n) (st .verdicts)) _ (refusedAt 11 n)
-    (pick-read (eqb (at (C .verdicts) (C .holder)) (verdictOf (judgement C))) (whole C) (refusedAt 13 n) (λ z. omega (arith, z)) (λ z. omega (arith, z)))
-    (λ z. omega (arith, z))
+    picked Reads (complete (S .n) (st .values) && complete (S .n) (st .verdicts)) (ofContents C n) (refusedAt 11 n)
+    (picked Reads (eqb (at (C .verdicts) (C .holder)) (verdictOf (judgement C))) (whole C) (refusedAt 13 n) (is-other 0 refl) (is-other 13 refl))
+    (is-other 11 refl)
 
-file-other : (s : List ℕ) → Other (numberOf (readFile s))
-unfolding Goes readFile ofDealing ofReceived setupFault dealingFault
-file-other s =
+file-reads : (s : List ℕ) → Reads (readFile s)
+unfolding readFile ofDealing ofReceived setupFault dealingFault
+file-reads s =
     let S = setupAt s in
     let t = drop (setupSize S) s in
-    let st = readReceived (headOf S (dealingAt t)) s (setupSize S + dealingSize S) in
-    or-other (setupFault s) 0 (ofDealing S s) (pick-other (eqb (length s) 0) 11 _ (λ z. omega (arith, z)) (by-table (readSetupRules s) tt))
-    (or-other (dealingFault S t) (setupSize S) (ofReceived S (dealingAt t) (dealingG S t) (dealingH S t) s)
-    (pick-other (eqb (length t) 0) 11 _ (λ z. omega (arith, z))
-    (pick-other (not (ltb (length t) 2) && eqb (wordAt t 0) markSU) 10 _ (λ z. omega (arith, z)) (by-table (standingRules dealingLayout S t) tt)))
-    (or-other (st .refusal) (st .at) (ofEnd S (dealingAt t) (dealingG S t) (dealingH S t) st (length s))
-    (reading-goes (length s) (headOf S (dealingAt t)) s (begin (setupSize S + dealingSize S)) (λ z. omega (arith, z)))
-    (end-other S (dealingAt t) (dealingG S t) (dealingH S t) st (length s))))
+    let at = setupSize S + dealingSize S in
+    let h = headOf S (dealingAt t) in
+    let st = readReceived h s at in
+    let end = ofEnd S (dealingAt t) (dealingG S t) (dealingH S t) st (length s) in
+    or-reads (setupFault s) 0 (ofDealing S s)
+    (picked Other (eqb (length s) 0) 11 (refusal (readSetupRules s)) (is-other 11 refl) (by-table (readSetupRules s) tt))
+    (or-reads (dealingFault S t) (setupSize S) (ofReceived S (dealingAt t) (dealingG S t) (dealingH S t) s)
+    (picked Other (eqb (length t) 0) 11 _ (is-other 11 refl)
+    (picked Other (not (ltb (length t) 2) && eqb (wordAt t 0) markSU) 10 _ (is-other 10 refl) (by-table (standingRules dealingLayout S t) tt)))
+    (or-reads (st .refusal) (st .at) end
+    (reading-goes (length s) h s (begin at) (is-other 0 refl)) (end-reads S (dealingAt t) (dealingG S t) (dealingH S t) st (length s))))
 
-read-not : (values : Contents → List ℕ) (x : FileRead) → Other (numberOf x) → NotGiven (fileAnswer values x)
-read-not values (refusedAt k byte) n = n
-read-not values (whole C) n = n
+read-answer : (values : Contents → List ℕ) (x : FileRead) → Reads x → NotGiven (fileAnswer values x)
+read-answer values (refusedAt k byte) n = n
+read-answer values (whole C) n = n
 
 -- EVERY CALL
 pub never-given : NeverGiven
 never-given =
     record {
-      field = field-not;
+      field = λ p. picked NotGiven (isField p) (given (p ∷ [])) (refused 1) (is-other 0 refl) (is-other 1 refl);
       points = λ S. answers (pointsRules S) _ tt (given-given []);
       deal = λ S secrets random i g h. answers (dealRules S secrets random i g h) _ tt (given-given []);
       deal-all = λ S secrets random gs hs. answers (dealAllRules S secrets random gs hs) _ tt (given-given []);
@@ -169,13 +165,6 @@ never-given =
       read-verdict = λ S s. answers (readRules verdictLayout S [] s) _ tt (given-given _);
       write-share = λ S x out. answers (writeRules shareLayout S x (length out)) _ tt (given-given []);
       read-share = λ S s. answers (readRules shareLayout S [] s) _ tt (given-given _);
-      file-text = λ s out. answer-by (lentFile s out 256) _ tt (read-not (λ C. length (textOf C) ∷ []) (readFile s) (file-other s));
-      file-contents = λ s out. answer-by (lentFile s out 18) _ tt (read-not (λ C. []) (readFile s) (file-other s));
+      file-text = λ s out. answer-by (lentFile s out 256) _ tt (read-answer (λ C. length (textOf C) ∷ []) (readFile s) (file-reads s));
+      file-contents = λ s out. answer-by (lentFile s out 18) _ tt (read-answer (λ C. []) (readFile s) (file-reads s));
     }
-  where
-    field-not : (p : ℕ) → NotGiven (pick (isField p) (given (p ∷ [])) (refused 1))
-    field-not p = go (isField p)
-      where
-        go : (b : Bool) → NotGiven (pick b (given (p ∷ [])) (refused 1))
-        go true z = omega (arith, z)
-        go false z = omega (arith, z)

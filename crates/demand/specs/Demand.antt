@@ -221,3 +221,13 @@ pub record Demand3 : Type 1 where
       → (b : ℕ) → b < S .l → (out : List ℕ) → length out ≡ S .l
       → Opens S s (tab (length (members (S .n) (holds s))) (λ a. at (D .shares (at (members (S .n) (holds s)) a)) b)) out
       (tab (S .l) (λ k. entry (S .l) secrets b k))
+
+-- Document 02, A1: "What the mission says of openings includes this sum of no columns". Over a family of dealings it is a list of no terms; where nothing
+-- was dealt there is no family, and it holds all the same.
+abbrev pub NothingDealt : Type 0
+NothingDealt =
+    (S : Setup) (group : ℕ) → determinesCall S group ≡ yes
+    → (openers : ℕ) (handed out : List ℕ) → openers < 2 ^ S .n → length handed ≡ length (members (S .n) (holds openers)) → Present S group openers
+    → ((a : ℕ) → a < length handed → holds group (at (members (S .n) (holds openers)) a) ≡ true → combineCall (S .p) [] [] ≡ given (at handed a ∷ []))
+    → length out ≡ S .l
+    → Opens S openers handed out (replicate (S .l) 0) ⊎ Refused S openers handed out

@@ -13,6 +13,7 @@ use lib.Dec.{eqb}
 use lib.ListN.{length, getD, drop}
 use lib.Seq.{getD-drop}
 use Rattle.base.specs.Choice.{pick}
+use Rattle.base.proofs.Choice.{picked}
 use Rattle.field.specs.Dot.{at}
 use Rattle.scheme.specs.Setup.{Setup, dim, IsSetup}
 use Rattle.scheme.proofs.Calls.{limits-pos}
@@ -144,19 +145,15 @@ or-inside : (k byte n : ℕ) (r : FileRead) → byte ≤ n → (k ≡ 0 → byte
 or-inside zero byte n r l f = f refl
 or-inside (suc k) byte n r l f = l
 
-pick-inside : (b : Bool) (n : ℕ) (r q : FileRead) → byteOf r ≤ n → byteOf q ≤ n → byteOf (pick b r q) ≤ n
-pick-inside true n r q l m = l
-pick-inside false n r q l m = m
-
 contents-inside : (C : Contents) (n : ℕ) → byteOf (ofContents C n) ≤ n
 unfolding ofContents
-contents-inside C n = pick-inside (eqb (at (C .verdicts) (C .holder)) (verdictOf (judgement C))) n (whole C) (refusedAt 13 n) (omega arith) (omega arith)
+contents-inside C n = picked (λ x. byteOf x ≤ n) (eqb (at (C .verdicts) (C .holder)) (verdictOf (judgement C))) (whole C) (refusedAt 13 n) (omega arith) (omega arith)
 
 end-inside : (S : Setup) (x : DealingRecord) (g h : List ℕ) (st : Seen) (n : ℕ) → byteOf (ofEnd S x g h st n) ≤ n
 unfolding ofEnd
 end-inside S x g h st n =
     let C = contentsOf S x g h (lowered (S .n) (st .values)) (lowered (S .n) (st .verdicts)) in
-    pick-inside (complete (S .n) (st .values) && complete (S .n) (st .verdicts)) n (ofContents C n) (refusedAt 11 n) (contents-inside C n) (omega arith)
+    picked (λ x. byteOf x ≤ n) (complete (S .n) (st .values) && complete (S .n) (st .verdicts)) (ofContents C n) (refusedAt 11 n) (contents-inside C n) (omega arith)
 
 pub file-inside : (s : List ℕ) → byteOf (readFile s) ≤ length s
 unfolding readFile ofDealing ofReceived

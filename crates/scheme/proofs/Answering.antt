@@ -13,6 +13,7 @@ use Rattle.base.specs.Choice.{pick}
 use Rattle.base.specs.Rules.{Answer, refusal, given, answerBy}
 use Rattle.base.specs.Search.{first, First, found, missing, firstVec, Vec}
 use Rattle.base.specs.Matrix.{flat}
+use Rattle.base.proofs.Choice.{picked}
 use Rattle.base.proofs.Rules.{lowest}
 use Rattle.base.proofs.Search.{every-at, every-all, first-is, firstVec-sound, firstVec-complete}
 use Rattle.field.specs.Fields.{isField}
@@ -47,10 +48,6 @@ pub given-number : (a : Answer) → Given a → a .number ≡ 0
 unfolding Given
 given-number a e = ap (λ (x : Answer). x .number) e
 
-choice-given : (b : Bool) (x y : Answer) → Given x → Given y → Given (pick b x y)
-choice-given true x y a c = a
-choice-given false x y a c = c
-
 pub judgement-given : (j : Judgement) → Given (paperJudgement j)
 unfolding Given
 judgement-given Accept = refl
@@ -65,15 +62,15 @@ pub rehearse-given : (S : Setup) (gs hs : List ℕ) → Given (rehearse S gs hs)
 unfolding Given rehearse
 rehearse-given S gs hs =
     let t = first (flat (S .n) (disagrees S gs hs)) (S .n * S .n) in
-    choice-given (ltb t (S .n * S .n)) (disagree (t / S .n) (t % S .n)) fair refl refl
+    picked Given (ltb t (S .n * S .n)) (disagree (t / S .n) (t % S .n)) fair refl refl
 
 pub decide-given : (b : Bool) → Given (decide b)
 unfolding Given
-decide-given b = choice-given b yes no refl refl
+decide-given b = picked Given b yes no refl refl
 
 pub kind-given : (S : Setup) (X : ℕ → Bool) (q : ℕ) → Given (kind S X q)
 unfolding Given kind
-kind-given S X q = choice-given (hasRow S X q) isARow (pick (hasSweep S X q) isAVector isNeither) refl (choice-given (hasSweep S X q) isAVector isNeither refl refl)
+kind-given S X q = picked Given (hasRow S X q) isARow (pick (hasSweep S X q) isAVector isNeither) refl (picked Given (hasSweep S X q) isAVector isNeither refl refl)
 
 -- an opening: the secrets, or 6, or 7
 pub data OpeningIs (S : Setup) (s : ℕ) (xs : List ℕ) : Type 0 where
