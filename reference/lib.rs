@@ -1,5 +1,5 @@
-//! Document 01 in plain safe Rust: every call and the holder's file, written from the document in the most direct way. It shares nothing with the
-//! proved library; the two are compared on many inputs.
+//! Document 01, with the requests of document 02 that have landed (A1), in plain safe Rust: every call and the holder's file, written from the documents
+//! in the most direct way. It shares nothing with the proved library; the two are compared on many inputs.
 
 /// A refusal's number (0: none) and the values given beside it.
 #[derive(Clone, Debug, PartialEq, Eq)]
