@@ -148,16 +148,15 @@ pub fn file(w: &World, k: usize, holder: u16) -> Vec<u8> {
     let (first, second) = bytes.split_at_mut(10 + 2 * s.entries());
     reference::write_setup(s, w.m(k), first);
     reference::write_dealing(s, 7, holder, w.g(k, holder as usize), w.h(k, holder as usize), second);
-    let mut records = vec![];
-    for j in 0..s.n {
-        let mut pair = vec![0; 10];
-        reference::write_pair_value(s, 7, j, holder, w.values(k, holder as usize)[j as usize], &mut pair);
-        records.push(pair);
-        let mut verdict = vec![0; 8];
-        reference::write_verdict(s, 7, j, 1, &mut verdict);
-        records.push(verdict);
+    for (j, &value) in (0..).zip(w.values(k, holder as usize)) {
+        let mut record = [0; 10];
+        reference::write_pair_value(s, 7, j, holder, value, &mut record);
+        bytes.extend(record);
     }
-    Random(k as u64).shuffle(&mut records);
-    bytes.extend(records.concat());
+    for j in 0..s.n {
+        let mut record = [0; 8];
+        reference::write_verdict(s, 7, j, 1, &mut record);
+        bytes.extend(record);
+    }
     bytes
 }

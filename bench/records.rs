@@ -167,7 +167,7 @@ pub fn records(t: &mut Table, w: &World) {
         },
     );
 
-    // Sound files of accepted dealings, each with its PV and VD in another order.
+    // Sound files of accepted dealings.
     let files: Vec<Vec<u8>> = (0..TURN).map(|k| file(w, k, holder(k))).collect();
     let (mut out, mut other) = ([0u8; 256], [0u8; 256]);
     let (mut count, mut byte) = (0, 0);

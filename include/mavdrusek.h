@@ -26,6 +26,7 @@
  *  13  in a file: the holder's own VD is not what its own judgement gives
  *  14  retired, and never given: a combination of no shares is 0
  *  15  points matrix with d + n above p
+ *  17  in a file: a PV or VD that is not the next one due
  * A reader tests the setup and the buffers that it is lent, then the mark, then the length, then the rest. (mavdrusek_read_setup_matrix knows the length
  * needed only from the record, and tests its buffer after the record's length.) In a file the first faulty record decides, and in it the mark, then the
  * length, then the lowest number; 11 and 13 come last. docs/RECORDS.md has the layout of every record.
@@ -160,14 +161,14 @@ uint16_t mavdrusek_read_share(uint16_t p, uint16_t l, uint16_t e, uint16_t n, co
 
 /* ---- The holder's file */
 
-/* Reads a holder's file of at most 4,096 bytes. `contents` has 18 entries:
+/* Reads a holder's file of at most 4,096 bytes: SU, DL, the n PV by rising sender, the n VD by rising holder. `contents` has 18 entries:
  *   0 to 3   p, l, e, n
  *   4, 5     the dealing number, the holder
  *   6, 7     the holder's judgement: 1 accept, and 0; or 0 reject, and the sender that it names
  *   8, 9     the outcome: 1 kept, and 0; or 0 aborted, and the holder that it names
  *   10 ..    the l shares where kept; zeros up to 18
- * A file that breaks the rules is refused by its number, 1 to 5 or 8 to 13, and *byte is the byte where the faulty record starts, or the file's length for
- * 11 and 13; `contents` keeps its contents. Where the file is read, *byte keeps its contents. A file of more than 4,096 bytes and a `contents` of another
+ * A file that breaks the rules is refused by its number, 1 to 5, 8 to 13 or 17, and *byte is the byte where the faulty record starts, or the file's length
+ * for 11 and 13; `contents` keeps its contents. Where the file is read, *byte keeps its contents. A file of more than 4,096 bytes and a `contents` of another
  * length are refused by 3 before the file is looked at, and then *byte keeps its contents too. */
 uint16_t mavdrusek_read_file(const uint8_t *file, size_t file_len, uint16_t *contents, size_t contents_len, size_t *byte);
 

@@ -43,7 +43,7 @@ pub const CALLS: [Call; 26] = [
     call("determines", &[1, 2, 3, 4, 5], 1, &[0], &[], Bytes::None),
     call("private", &[1, 2, 3, 4, 5], 1, &[0], &[], Bytes::None),
     call("open", &[1, 2, 3, 4, 5, 6, 7], 1, &[0, 1], &[2], Bytes::None),
-    call("holder's file, text", &[1, 2, 3, 4, 5, 8, 9, 10, 11, 12, 13], 2, &[], &[], Bytes::Read),
+    call("holder's file, text", &[1, 2, 3, 4, 5, 8, 9, 10, 11, 12, 13, 17], 2, &[], &[], Bytes::Read),
     call("write SU", &[1, 2, 3, 4], 0, &[0], &[], Bytes::Written),
     call("write DL", &[1, 2, 3, 4, 5, 9], 0, &[0, 1], &[], Bytes::Written),
     call("write PV", &[1, 2, 3, 4, 5, 9], 0, &[], &[], Bytes::Written),
@@ -55,7 +55,7 @@ pub const CALLS: [Call; 26] = [
     call("read PV", &[1, 2, 3, 4, 5, 8, 9], 4, &[], &[], Bytes::Read),
     call("read VD", &[1, 2, 3, 5, 8, 9, 12], 3, &[], &[], Bytes::Read),
     call("read SH", &[1, 2, 3, 4, 5, 8], 4, &[], &[], Bytes::Read),
-    call("holder's file, contents", &[1, 2, 3, 4, 5, 8, 9, 10, 11, 12, 13], 1, &[], &[0], Bytes::Read),
+    call("holder's file, contents", &[1, 2, 3, 4, 5, 8, 9, 10, 11, 12, 13, 17], 1, &[], &[0], Bytes::Read),
     call("field", &[1], 0, &[], &[], Bytes::None),
 ];
 

@@ -256,7 +256,7 @@ impl<'a> Draw<'a> {
         c
     }
 
-    /// A holder's file as the rules have it, now and then with a changed value or verdict, its PV and VD in any order.
+    /// A holder's file as the rules have it, now and then with a changed value or verdict, or with its PV and VD in another order.
     fn file(&mut self) -> Vec<u8> {
         let (s, d, n) = (self.s, self.s.d(), self.s.n as usize);
         let (_, _, gs, hs) = self.dealing();
@@ -276,8 +276,12 @@ impl<'a> Draw<'a> {
         let number = 1 + self.r.below(65535) as u16;
         let mut rest: Vec<Vec<u16>> = (0..n as u16).map(|j| vec![PV, number, j, i as u16, values[j as usize]]).collect();
         rest.extend((0..n as u16).map(|j| vec![VD, number, j, verdicts[j as usize]]));
-        for k in (1..rest.len()).rev() {
-            rest.swap(k, self.r.below(k + 1));
+        let (a, b) = (self.r.below(2 * n), self.r.below(2 * n));
+        match self.r.below(12) {
+            0 => rest.rotate_left(a),
+            1 => rest.swap(a, b),
+            2 => rest[a] = rest[b].clone(),
+            _ => {}
         }
         let mut words = vec![SU, s.p, s.l, s.e, s.n];
         words.extend(&self.m);

@@ -2,7 +2,7 @@
 
 use crate::cases::*;
 use crate::draw::*;
-use crate::files::{example, zeros};
+use crate::files::{example, other_records, zeros};
 use reference::*;
 
 const READERS: [(u16, u16); 6] = [(18, SU), (19, SU), (20, DL), (21, PV), (22, VD), (23, SH)];
@@ -509,7 +509,8 @@ fn worked(r: &mut Random, cases: &mut Vec<Case>) {
     }
 }
 
-/// Holder's files: sound over every field, shuffled, cut at every byte, each record gone, again or last; the largest, and one of 4,096 bytes.
+/// Holder's files: sound over every field, shuffled, cut at every byte, each record gone, again or last, another one in its place; the largest, and one of
+/// 4,096 bytes.
 fn files(r: &mut Random, cases: &mut Vec<Case>) {
     let mut push = |file: Vec<u8>| cases.push(Case { call: FILE, numbers: [0; 8], words: vec![], bytes: file });
     let whole = example();
@@ -529,6 +530,7 @@ fn files(r: &mut Random, cases: &mut Vec<Case>) {
         }
         push([bytes(&whole[..18]), bytes(&rest.concat())].concat());
     }
+    other_records().iter().for_each(|words| push(bytes(words)));
     // every word at some limit
     for k in 0..whole.len() {
         for w in [0, 2, 3, 7] {

@@ -25,11 +25,29 @@ pub fn zeros(p: u16, l: u16, e: u16, n: u16) -> Vec<u16> {
     words.extend(vec![0; n as usize * d]);
     words.extend([DL, 65535, n - 1]);
     words.extend(vec![0; 2 * d]);
-    for from in 0..n {
-        words.extend([PV, 65535, from, n - 1, 0]);
-        words.extend([VD, 65535, from, 1]);
-    }
+    words.extend((0..n).flat_map(|from| [PV, 65535, from, n - 1, 0]));
+    words.extend((0..n).flat_map(|holder| [VD, 65535, holder, 1]));
     words
+}
+
+/// The example with another PV or VD where each of its records stands behind DL, and behind the last: of every holder and of one that is none, with each
+/// choice of faults in its other fields; the records behind it follow.
+pub fn other_records() -> Vec<Vec<u16>> {
+    let whole = example();
+    let mut all = vec![];
+    for (from, to) in [(18, 23), (23, 28), (28, 33), (33, 37), (37, 41), (41, 45), (45, 45)] {
+        let mut put = |record: &[u16]| all.push([&whole[..from], record, &whole[to..]].concat());
+        for holder in 0..4 {
+            let value = [2, 1, 0, 0][holder];
+            for [dealing, receiver, value] in [1, 2].map(|x| [1, 0].map(|y| [value, 7].map(|z| [x, y, z]))).concat().concat() {
+                put(&[PV, dealing, holder as u16, receiver, value]);
+            }
+            for [dealing, verdict] in [1, 2].map(|x| [1, 2].map(|y| [x, y])).concat() {
+                put(&[VD, dealing, holder as u16, verdict]);
+            }
+        }
+    }
+    all
 }
 
 pub fn stored() -> (Vec<u8>, String) {
@@ -74,9 +92,11 @@ pub fn stored() -> (Vec<u8>, String) {
         files.push(bytes(&[&without[..], record].concat()));
     }
 
+    files.extend(other_records().iter().map(|words| bytes(words)));
+
     // drawn files of every field, in order or damaged
     let mut r = Random(20140902);
-    while files.len() < 1000 {
+    while files.len() < 1400 {
         let sound = Draw::new(&mut r).case(FILE);
         let c = damaged(&mut r, sound);
         if c.bytes.len() < 600 {
@@ -110,11 +130,14 @@ pub fn for_the_program() -> Vec<(&'static str, Vec<u8>, String)> {
     let key = Params { p: 257, l: 4, e: 3, n: 16 };
     let mut again = example();
     again[25] = 0; // the second PV from holder 0 once more
+    let mut order = example();
+    order[20] = 1; // the first PV from holder 1
     let long = [&largest[..], &vec![0; 5000 - largest.len()]].concat();
     let files = [
         ("empty", vec![]),
         ("largest", largest),
         ("long", long),
+        ("order", bytes(&order)),
         ("pieces", with_words(&mut r, key, "outcome kept")),
         ("refused", bytes(&again)),
         ("rejected", with_words(&mut r, key, "verdict reject")),

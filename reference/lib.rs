@@ -1,4 +1,4 @@
-//! Document 01, with the requests of document 02 that have landed (A1), in plain safe Rust: every call and the holder's file, written from the documents
+//! Document 01, with the requests of document 02 that have landed (A1, A2), in plain safe Rust: every call and the holder's file, written from the documents
 //! in the most direct way. It shares nothing with the proved library; the two are compared on many inputs.
 
 /// A refusal's number (0: none) and the values given beside it.
@@ -654,8 +654,10 @@ struct Holder {
     holder: u16,
     g: Vec<u16>,
     h: Vec<u16>,
-    values: Vec<Option<u16>>,
-    verdicts: Vec<Option<u16>>,
+    /// From holder 0 on.
+    values: Vec<u16>,
+    /// Of holder 0 on.
+    verdicts: Vec<u16>,
 }
 
 /// The refusal and the byte where the faulty record starts.
@@ -680,33 +682,31 @@ fn first_record(part: &[u8]) -> Result<(Params, Vec<u16>), u16> {
 fn second_record(s: Params, m: Vec<u16>, part: &[u8]) -> Result<Holder, u16> {
     mark_in_place(part, &[DL], &[SU])?;
     let (dealing, holder, g, h) = dealing_fields(&s, part)?;
-    let none = vec![None; s.n as usize];
-    Ok(Holder { s, m, dealing, holder, g, h, values: none.clone(), verdicts: none })
+    Ok(Holder { s, m, dealing, holder, g, h, values: vec![], verdicts: vec![] })
 }
 
-/// Notes what a holder sent, once only.
-fn receive(received: &mut [Option<u16>], from: u16, value: u16, mut f: Faults) -> Result<(), u16> {
-    let from = from as usize;
-    f.when(10, from < received.len() && received[from].is_some());
-    f.check()?;
-    received[from] = Some(value);
-    Ok(())
-}
-
-/// Takes in a PV or VD and gives its size.
+/// Takes in a PV or VD and gives its size. The PV come by sender and then the VD by holder, so that one from a holder already heard is there twice.
 fn later_record(x: &mut Holder, part: &[u8]) -> Result<usize, u16> {
     if mark_in_place(part, &[PV, VD], &[SU, DL])? == PV {
         let all @ [dealing, from, to, value] = fields(part)?;
+        let next = x.values.len();
         let mut f = pair_faults(&x.s, all);
         f.when(5, to != x.holder);
         f.when(9, dealing != x.dealing);
-        receive(&mut x.values, from, value, f)?;
+        f.when(10, (from as usize) < next);
+        f.when(17, from as usize != next);
+        f.check()?;
+        x.values.push(value);
         Ok(10)
     } else {
         let all @ [dealing, from, verdict] = fields(part)?;
+        let next = x.verdicts.len();
         let mut f = verdict_faults(&x.s, all);
         f.when(9, dealing != x.dealing);
-        receive(&mut x.verdicts, from, verdict, f)?;
+        f.when(10, (from as usize) < next);
+        f.when(17, x.values.len() < x.s.n as usize || from as usize != next);
+        f.check()?;
+        x.verdicts.push(verdict);
         Ok(8)
     }
 }
@@ -727,7 +727,7 @@ fn read_records(file: &[u8]) -> Result<Holder, Fault> {
     while at < file.len() {
         at += later_record(&mut x, &file[at..]).map_err(|k| (k, at))?;
     }
-    if x.values.iter().chain(&x.verdicts).all(|v| v.is_some()) { Ok(x) } else { Err(missing) }
+    if x.verdicts.len() == s.n as usize { Ok(x) } else { Err(missing) }
 }
 
 /// What a file that keeps the rules says.
@@ -745,13 +745,11 @@ struct Contents {
 /// Reads a file to its end, and judges.
 fn contents_of(file: &[u8]) -> Result<Contents, Fault> {
     let x = read_records(file)?;
-    let values: Vec<u16> = x.values.iter().map(|v| v.unwrap()).collect();
-    let verdicts: Vec<u16> = x.verdicts.iter().map(|v| v.unwrap()).collect();
-    let rejected = judgement(&x.s, &x.m, &x.h, &values);
-    if verdicts[x.holder as usize] != rejected.is_none() as u16 {
+    let rejected = judgement(&x.s, &x.m, &x.h, &x.values);
+    if x.verdicts[x.holder as usize] != rejected.is_none() as u16 {
         return Err((13, file.len()));
     }
-    let aborted = verdicts.iter().position(|&v| v == 0).map(|i| i as u16);
+    let aborted = x.verdicts.iter().position(|&v| v == 0).map(|i| i as u16);
     let shares = if aborted.is_none() { x.g[..x.s.l as usize].to_vec() } else { vec![] };
     Ok(Contents { s: x.s, dealing: x.dealing, holder: x.holder, rejected, aborted, shares })
 }

@@ -108,6 +108,8 @@ pub enum Refusal {
     OwnVerdict,
     /// 15: a points matrix with d + n above p.
     TooFewPoints,
+    /// 17: in a file a PV or VD that is not the next one due: the PV come by rising sender, then the VD by rising holder.
+    Order,
 }
 
 impl Refusal {
@@ -128,6 +130,7 @@ impl Refusal {
             Refusal::NoVerdict => 12,
             Refusal::OwnVerdict => 13,
             Refusal::TooFewPoints => 15,
+            Refusal::Order => 17,
         }
     }
 }
@@ -149,6 +152,7 @@ impl fmt::Display for Refusal {
             Refusal::NoVerdict => "a verdict is neither 0 nor 1",
             Refusal::OwnVerdict => "the own verdict is not what the own judgement gives",
             Refusal::TooFewPoints => "the field has fewer than d + n elements",
+            Refusal::Order => "a record is not the next one due",
         };
         write!(f, "refused {}: {why}", self.number())
     }
@@ -174,6 +178,7 @@ fn answer(number: u16, position: u16) -> Result<(), Refusal> {
         12 => Refusal::NoVerdict,
         13 => Refusal::OwnVerdict,
         15 => Refusal::TooFewPoints,
+        17 => Refusal::Order,
         other => unreachable!("the linked library gave {other}, which no call gives"),
     })
 }

@@ -62,11 +62,14 @@ fn largest() {
     let g: Vec<u16> = (65505..65521).collect();
     setup.write_dealing(&DealingRecord { dealing: 65535, holder: 31 }, &g, &[0; 16], second).unwrap();
     for sender in 0..32 {
-        let (mut pair, mut verdict) = ([0; PAIR_VALUE_BYTES], [0; VERDICT_BYTES]);
-        setup.write_pair_value(&PairValueRecord { dealing: 65535, sender, receiver: 31, value: 0 }, &mut pair).unwrap();
-        setup.write_verdict(&VerdictRecord { dealing: 65535, holder: sender, verdict: Verdict::Accept }, &mut verdict).unwrap();
-        bytes.extend(pair);
-        bytes.extend(verdict);
+        let mut record = [0; PAIR_VALUE_BYTES];
+        setup.write_pair_value(&PairValueRecord { dealing: 65535, sender, receiver: 31, value: 0 }, &mut record).unwrap();
+        bytes.extend(record);
+    }
+    for holder in 0..32 {
+        let mut record = [0; VERDICT_BYTES];
+        setup.write_verdict(&VerdictRecord { dealing: 65535, holder, verdict: Verdict::Accept }, &mut record).unwrap();
+        bytes.extend(record);
     }
     let found = contents(&bytes);
     assert_eq!((found.setup, found.dealing, found.holder), (setup, 65535, 31));
@@ -75,12 +78,27 @@ fn largest() {
     assert_eq!(found.text, format!("setup 65521 8 8 32\ndealing 65535 holder 31\nverdict accept\noutcome kept\n{shares}"));
 }
 
+/// The PV by rising sender, then the VD by rising holder: whichever two records change places, the file is refused where the first of them is due.
 #[test]
-fn any_order() {
+fn one_order() {
     let file = file([2, 1, 0], ACCEPT);
-    let (start, rest) = file.split_at(36);
-    let turned = [start, &rest[30..], &rest[20..30], &rest[..20]].concat();
-    assert!(contents(&turned) == contents(&file));
+    let records = [&file[36..46], &file[46..56], &file[56..66], &file[66..74], &file[74..82], &file[82..90]];
+    let places = [36, 46, 56, 66, 74, 82];
+    for first in 0..6 {
+        for second in first + 1..6 {
+            let mut turned = records;
+            turned.swap(first, second);
+            let turned = [&file[..36], &turned.concat()].concat();
+            assert!(read_file(&turned) == Err(FileRefusal { refusal: Refusal::Order, byte: Some(places[first]) }));
+        }
+    }
+    // A PV or VD again is 10 and not 17, also where all are there.
+    assert_eq!(refused(&[&file[..56], records[0]].concat()), "refused 10 at 56");
+    for again in records {
+        assert_eq!(refused(&[&file[..], again].concat()), "refused 10 at 90");
+    }
+    // 12 comes before 17: a verdict of 2 where a PV is due.
+    assert_eq!(refused(&[&file[..46], b"VD\x01\0\x02\0\x02\0"].concat()), "refused 12 at 46");
 }
 
 #[test]

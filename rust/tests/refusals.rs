@@ -22,6 +22,7 @@ fn numbers() {
         (Refusal::NoVerdict, 12),
         (Refusal::OwnVerdict, 13),
         (Refusal::TooFewPoints, 15),
+        (Refusal::Order, 17),
     ];
     for (refusal, number) in all {
         assert_eq!(refusal.number(), number);

@@ -1,15 +1,15 @@
 -- Refusal 14 is retired: no table of refusals has a rule of that number, which is one computed test for each (never), and what stands behind a table is
 -- an answer with number 0, an opening's own 6 or 7, or what is read from a file: 11, 13 or the fault of a record.
 -- Other: another number than the retired one
--- Goes, Reads: what has been seen of a file, and what is read of it, is not refused by that number
+-- Reads: what is read of a file is not refused by that number
 use mathlib.Core.Path.{_≡_, refl}
-use mathlib.Core.Bool.{Bool, false, not, _&&_}
+use mathlib.Core.Bool.{false, not, _&&_}
 use mathlib.Core.List.{List, [], _∷_}
-use Prim.Native.Nat.{ℕ, zero, suc, _+_}
+use Prim.Native.Nat.{ℕ, zero, suc, _+_, _*_}
 use native.Mathlib.Omega.{arith}
 use borrow.Author.Tests.{eqb-false}
 use lib.Dec.{T, eqb, ltb, leb}
-use lib.ListN.{length, getD, drop}
+use lib.ListN.{length, drop}
 use Rattle.base.specs.Choice.{pick}
 use Rattle.base.specs.Rules.{Rule, refusal, Answer, refused, given, answerBy}
 use Rattle.base.proofs.Choice.{picked}
@@ -23,13 +23,12 @@ use Rattle.scheme.specs.Opening.{opening}
 use Rattle.scheme.specs.Calls.{pointsRules, dealRules, dealAllRules, pairValueRules, judgeRules, outcomeRules, rehearseRules, setRules, judgeSetRules, openRules, combineRules}
 use Rattle.scheme.proofs.Answering.{Given, given-given, given-number, judgement-given, fate-given, rehearse-given, decide-given, kind-given, OpeningIs, secrets, by-six, by-seven, opening-is}
 use Rattle.record_layouts.specs.Words.{wordAt}
-use Rattle.record_layouts.specs.declared.DealingRecord.{DealingRecord}
-use Rattle.record_layouts.specs.Records.{markSU, markDL, markPV, markVD, pairSize, verdictSize, pairAt, verdictAt, setupAt, setupSize, dealingSize, dealingAt, dealingG, dealingH, parts, writeRules, readRules, writeSetupRules, readSetupRules, readMatrixRules, readDealingRules, standingRules, dealingLayout, pairLayout, verdictLayout, shareLayout}
+use Rattle.record_layouts.specs.Records.{markSU, pairAt, verdictAt, setupAt, setupSize, dealingSize, dealingAt, dealingG, dealingH, parts, writeRules, readRules, writeSetupRules, readSetupRules, readMatrixRules, readDealingRules, standingRules, dealingLayout, pairLayout, verdictLayout, shareLayout}
 use Rattle.file_records.specs.declared.Head.{Head}
-use Rattle.file_records.specs.declared.Seen.{Seen}
-use Rattle.file_records.specs.Received.{pairRules, pairFault, verdictRules, verdictFault, markFault, refuse, takePair, takeVerdict, orTake, stepPair, stepVerdict, step, readFor, readReceived, begin, complete, lowered}
-use Rattle.file_reading.specs.Contents.{Contents, judgement, verdictOf}
-use Rattle.file_reading.specs.File.{FileRead, refusedAt, whole, numberOf, setupFault, dealingFault, headOf, contentsOf, ofContents, ofEnd, orRefused, ofReceived, ofDealing, readFile}
+use Rattle.file_records.specs.Received.{place, pairRules, pairFault, verdictRules, verdictFault, recordFault, faultAt, reached, valuesAt, verdictsAt}
+use Rattle.file_records.proofs.Reading.{record-by}
+use Rattle.file_reading.specs.Contents.{Contents, judgement, verdictOf, headOf}
+use Rattle.file_reading.specs.File.{FileRead, refusedAt, whole, numberOf, setupFault, dealingFault, contentsOf, ofContents, orRefused, ofReceived, ofDealing, readFile}
 use Rattle.holder_file.specs.Text.{textOf}
 use Rattle.holder_file.specs.Calls.{fileAnswer, lentFile}
 use Rattle.demand.specs.Retired.{retired, NotGiven, NeverGiven}
@@ -64,42 +63,14 @@ opening-other S s xs = go (opening-is S s xs)
     go (by-seven d n e) = rw e (is-other 7 refl)
 
 -- FILES
-abbrev Goes : Seen → Type 0
-Goes st = Other (st .refusal)
-
--- a record of a file: cut short, or taken, or refused by the fault k
-record-goes : (short : Bool) (st taken : Seen) (k : ℕ) → Goes taken → Other k → Goes (pick short (refuse st 3) (orTake k st taken))
-record-goes short st taken k g n =
-    picked Goes short (refuse st 3) (orTake k st taken) (is-other 3 refl) (picked Goes (eqb k 0) taken (refuse st k) g n)
-
-step-goes : (h : Head) (t : List ℕ) (st : Seen) → Goes st → Goes (step h t st)
-unfolding step stepPair stepVerdict pairFault verdictFault markFault
-step-goes h t st g =
-    let mark = wordAt t 0 in
-    let x = pairAt t in
-    let had = getD (st .values) (x .sender) 0 in
-    let y = verdictAt t in
-    let said = getD (st .verdicts) (y .holder) 0 in
-    let unknown = refuse st (markFault mark) in
-    let pair = stepPair h (length t) x st in
-    let verdict = stepVerdict h (length t) y st in
-    picked Goes (ltb (length t) 2) (refuse st 3) (pick (eqb mark markPV) pair (pick (eqb mark markVD) verdict unknown)) (is-other 3 refl)
-    (picked Goes (eqb mark markPV) pair (pick (eqb mark markVD) verdict unknown)
-    (record-goes (ltb (length t) pairSize) st (takePair st x) (pairFault h x had) g (by-table (pairRules h x had) tt))
-    (picked Goes (eqb mark markVD) verdict unknown
-    (record-goes (ltb (length t) verdictSize) st (takeVerdict st y) (verdictFault h y said) g (by-table (verdictRules h y said) tt))
-    (picked Other (eqb mark markSU) 10 (pick (eqb mark markDL) 10 8) (is-other 10 refl)
-    (picked Other (eqb mark markDL) 10 8 (is-other 10 refl) (is-other 8 refl)))))
-
-reading-goes : (k : ℕ) (h : Head) (s : List ℕ) (st : Seen) → Goes st → Goes (readFor k h s st)
-unfolding readFor
-reading-goes zero h s st g = g
-reading-goes (suc k) h s st g =
-    let r = step h (drop (st .at) s) st in
-    let rest = readFor k h s r in
-    let n = step-goes h (drop (st .at) s) st g in
-    picked Goes (leb (length s) (st .at)) st (pick (eqb (r .refusal) 0) rest r) g
-    (picked Goes (eqb (r .refusal) 0) rest r (reading-goes k h s r n) n)
+fault-other : (h : Head) (t : List ℕ) (k : ℕ) → Other (faultAt h t k)
+unfolding faultAt pairFault verdictFault
+fault-other h t k =
+    let at = place (h .n) k in
+    let u = drop at t in
+    picked Other (leb (length t) at) (pick (ltb k (2 * h .n)) 11 0) (recordFault h k (drop at t))
+    (picked Other (ltb k (2 * h .n)) 11 0 (is-other 11 refl) (is-other 0 refl))
+    (record-by Other h k u (is-other 3 refl) (is-other 8 refl) (is-other 10 refl) (by-table (pairRules h k (length u) (pairAt u)) tt) (by-table (verdictRules h k (length u) (verdictAt u)) tt))
 
 abbrev Reads : FileRead → Type 0
 Reads x = Other (numberOf x)
@@ -108,30 +79,25 @@ or-reads : (k byte : ℕ) (r : FileRead) → Other k → Reads r → Reads (orRe
 or-reads zero byte r m n = n
 or-reads (suc k) byte r m n = m
 
-end-reads : (S : Setup) (x : DealingRecord) (g h : List ℕ) (st : Seen) (n : ℕ) → Reads (ofEnd S x g h st n)
-unfolding ofEnd ofContents
-end-reads S x g h st n =
-    let C = contentsOf S x g h (lowered (S .n) (st .values)) (lowered (S .n) (st .verdicts)) in
-    picked Reads (complete (S .n) (st .values) && complete (S .n) (st .verdicts)) (ofContents C n) (refusedAt 11 n)
-    (picked Reads (eqb (at (C .verdicts) (C .holder)) (verdictOf (judgement C))) (whole C) (refusedAt 13 n) (is-other 0 refl) (is-other 13 refl))
-    (is-other 11 refl)
+contents-reads : (C : Contents) (n : ℕ) → Reads (ofContents C n)
+unfolding ofContents
+contents-reads C n =
+    picked Reads (eqb (at (C .verdicts) (C .holder)) (verdictOf (judgement C))) (whole C) (refusedAt 13 n) (is-other 0 refl) (is-other 13 refl)
 
 file-reads : (s : List ℕ) → Reads (readFile s)
 unfolding readFile ofDealing ofReceived setupFault dealingFault
 file-reads s =
     let S = setupAt s in
     let t = drop (setupSize S) s in
-    let at = setupSize S + dealingSize S in
     let h = headOf S (dealingAt t) in
-    let st = readReceived h s at in
-    let end = ofEnd S (dealingAt t) (dealingG S t) (dealingH S t) st (length s) in
+    let sent = drop (setupSize S + dealingSize S) s in
+    let C = contentsOf S (dealingAt t) (dealingG S t) (dealingH S t) (valuesAt (S .n) sent) (verdictsAt (S .n) sent) in
     or-reads (setupFault s) 0 (ofDealing S s)
     (picked Other (eqb (length s) 0) 11 (refusal (readSetupRules s)) (is-other 11 refl) (by-table (readSetupRules s) tt))
     (or-reads (dealingFault S t) (setupSize S) (ofReceived S (dealingAt t) (dealingG S t) (dealingH S t) s)
     (picked Other (eqb (length t) 0) 11 _ (is-other 11 refl)
     (picked Other (not (ltb (length t) 2) && eqb (wordAt t 0) markSU) 10 _ (is-other 10 refl) (by-table (standingRules dealingLayout S t) tt)))
-    (or-reads (st .refusal) (st .at) end
-    (reading-goes (length s) h s (begin at) (is-other 0 refl)) (end-reads S (dealingAt t) (dealingG S t) (dealingH S t) st (length s))))
+    (or-reads (faultAt h sent (reached h sent)) _ (ofContents C (length s)) (fault-other h sent (reached h sent)) (contents-reads C (length s))))
 
 read-answer : (values : Contents → List ℕ) (x : FileRead) → Reads x → NotGiven (fileAnswer values x)
 read-answer values (refusedAt k byte) n = n

@@ -1,7 +1,8 @@
--- Document 01's file of 90 bytes and its three variants ("The holder program on paper"), read by the definitions.
--- worked, last-gone, rejected, contradicted: the four files, one line here for each record; workedContents, rejectedContents: what the first and the third hold
+-- Document 01's file of 90 bytes and its three variants ("The holder program on paper"), and files with a record out of its order, read by the definitions.
+-- front, pv, vd: the bytes of SU and DL, of a PV and of a VD
+-- worked, last-gone, rejected, contradicted: document 01's four files; workedContents, rejectedContents: what the first and the third hold
 use mathlib.Core.Path.{_≡_, refl}
-use mathlib.Core.List.{List, [], _∷_}
+use mathlib.Core.List.{List, [], _∷_, _++_}
 use Prim.Native.Nat.{ℕ}
 use Rattle.base.specs.Sum.{sum}
 use Rattle.base.specs.Search.{every, first, firstFrom}
@@ -12,56 +13,37 @@ use Rattle.field.specs.Dot.{dot}
 use Rattle.scheme.specs.Dealing.{expected, differs, saidReject, isKept, judgementOf, fateOf}
 use Rattle.scheme.proofs.Cases.{ex}
 use Rattle.record_layouts.specs.Words.{bytes, wordsAt}
-use Rattle.file_records.specs.Received.{pairFault, verdictFault, markFault, stepPair, stepVerdict, step, readFor, complete, lowered}
+use Rattle.file_records.specs.Received.{pairFault, verdictFault, markFault, recordFault, faultAt, reached}
 use Rattle.file_reading.specs.Contents.{Contents, fileBytes}
-use Rattle.file_reading.specs.File.{whole, refusedAt, setupFault, dealingFault, ofContents, ofEnd, ofReceived, ofDealing, readFile}
+use Rattle.file_reading.specs.File.{whole, refusedAt, setupFault, dealingFault, ofContents, ofReceived, ofDealing, readFile}
+
+abbrev front : List ℕ
+front =
+    83 ∷ 85 ∷ 7 ∷ 0 ∷ 1 ∷ 0 ∷ 1 ∷ 0 ∷ 3 ∷ 0 ∷ 6 ∷ 0 ∷ 2 ∷ 0 ∷ 5 ∷ 0 ∷ 3 ∷ 0 ∷ 4 ∷ 0 ∷ 4 ∷ 0
+    ∷ 68 ∷ 76 ∷ 1 ∷ 0 ∷ 1 ∷ 0 ∷ 2 ∷ 0 ∷ 4 ∷ 0 ∷ 4 ∷ 0 ∷ 3 ∷ 0 ∷ []
+
+-- of dealing 1: from a holder to holder 1, and of a holder
+abbrev pv : (sender value : ℕ) → List ℕ
+pv sender value = 80 ∷ 86 ∷ 1 ∷ 0 ∷ sender ∷ 0 ∷ 1 ∷ 0 ∷ value ∷ 0 ∷ []
+
+abbrev vd : (holder verdict : ℕ) → List ℕ
+vd holder verdict = 86 ∷ 68 ∷ 1 ∷ 0 ∷ holder ∷ 0 ∷ verdict ∷ 0 ∷ []
 
 -- "The file is 90 bytes": SU, DL, the PV from 0, 1 and 2, the VD of 0, 1 and 2
 abbrev pub worked : List ℕ
-worked =
-    83 ∷ 85 ∷ 7 ∷ 0 ∷ 1 ∷ 0 ∷ 1 ∷ 0 ∷ 3 ∷ 0 ∷ 6 ∷ 0 ∷ 2 ∷ 0 ∷ 5 ∷ 0 ∷ 3 ∷ 0 ∷ 4 ∷ 0 ∷ 4 ∷ 0
-    ∷ 68 ∷ 76 ∷ 1 ∷ 0 ∷ 1 ∷ 0 ∷ 2 ∷ 0 ∷ 4 ∷ 0 ∷ 4 ∷ 0 ∷ 3 ∷ 0
-    ∷ 80 ∷ 86 ∷ 1 ∷ 0 ∷ 0 ∷ 0 ∷ 1 ∷ 0 ∷ 2 ∷ 0
-    ∷ 80 ∷ 86 ∷ 1 ∷ 0 ∷ 1 ∷ 0 ∷ 1 ∷ 0 ∷ 1 ∷ 0
-    ∷ 80 ∷ 86 ∷ 1 ∷ 0 ∷ 2 ∷ 0 ∷ 1 ∷ 0 ∷ 0 ∷ 0
-    ∷ 86 ∷ 68 ∷ 1 ∷ 0 ∷ 0 ∷ 0 ∷ 1 ∷ 0
-    ∷ 86 ∷ 68 ∷ 1 ∷ 0 ∷ 1 ∷ 0 ∷ 1 ∷ 0
-    ∷ 86 ∷ 68 ∷ 1 ∷ 0 ∷ 2 ∷ 0 ∷ 1 ∷ 0 ∷ []
+worked = front ++ pv 0 2 ++ pv 1 1 ++ pv 2 0 ++ vd 0 1 ++ vd 1 1 ++ vd 2 1
 
 -- "Last VD gone"
 abbrev pub last-gone : List ℕ
-last-gone =
-    83 ∷ 85 ∷ 7 ∷ 0 ∷ 1 ∷ 0 ∷ 1 ∷ 0 ∷ 3 ∷ 0 ∷ 6 ∷ 0 ∷ 2 ∷ 0 ∷ 5 ∷ 0 ∷ 3 ∷ 0 ∷ 4 ∷ 0 ∷ 4 ∷ 0
-    ∷ 68 ∷ 76 ∷ 1 ∷ 0 ∷ 1 ∷ 0 ∷ 2 ∷ 0 ∷ 4 ∷ 0 ∷ 4 ∷ 0 ∷ 3 ∷ 0
-    ∷ 80 ∷ 86 ∷ 1 ∷ 0 ∷ 0 ∷ 0 ∷ 1 ∷ 0 ∷ 2 ∷ 0
-    ∷ 80 ∷ 86 ∷ 1 ∷ 0 ∷ 1 ∷ 0 ∷ 1 ∷ 0 ∷ 1 ∷ 0
-    ∷ 80 ∷ 86 ∷ 1 ∷ 0 ∷ 2 ∷ 0 ∷ 1 ∷ 0 ∷ 0 ∷ 0
-    ∷ 86 ∷ 68 ∷ 1 ∷ 0 ∷ 0 ∷ 0 ∷ 1 ∷ 0
-    ∷ 86 ∷ 68 ∷ 1 ∷ 0 ∷ 1 ∷ 0 ∷ 1 ∷ 0 ∷ []
+last-gone = front ++ pv 0 2 ++ pv 1 1 ++ pv 2 0 ++ vd 0 1 ++ vd 1 1
 
 -- "PV from 0 made 3: own VD 0"
 abbrev pub rejected : List ℕ
-rejected =
-    83 ∷ 85 ∷ 7 ∷ 0 ∷ 1 ∷ 0 ∷ 1 ∷ 0 ∷ 3 ∷ 0 ∷ 6 ∷ 0 ∷ 2 ∷ 0 ∷ 5 ∷ 0 ∷ 3 ∷ 0 ∷ 4 ∷ 0 ∷ 4 ∷ 0
-    ∷ 68 ∷ 76 ∷ 1 ∷ 0 ∷ 1 ∷ 0 ∷ 2 ∷ 0 ∷ 4 ∷ 0 ∷ 4 ∷ 0 ∷ 3 ∷ 0
-    ∷ 80 ∷ 86 ∷ 1 ∷ 0 ∷ 0 ∷ 0 ∷ 1 ∷ 0 ∷ 3 ∷ 0
-    ∷ 80 ∷ 86 ∷ 1 ∷ 0 ∷ 1 ∷ 0 ∷ 1 ∷ 0 ∷ 1 ∷ 0
-    ∷ 80 ∷ 86 ∷ 1 ∷ 0 ∷ 2 ∷ 0 ∷ 1 ∷ 0 ∷ 0 ∷ 0
-    ∷ 86 ∷ 68 ∷ 1 ∷ 0 ∷ 0 ∷ 0 ∷ 1 ∷ 0
-    ∷ 86 ∷ 68 ∷ 1 ∷ 0 ∷ 1 ∷ 0 ∷ 0 ∷ 0
-    ∷ 86 ∷ 68 ∷ 1 ∷ 0 ∷ 2 ∷ 0 ∷ 1 ∷ 0 ∷ []
+rejected = front ++ pv 0 3 ++ pv 1 1 ++ pv 2 0 ++ vd 0 1 ++ vd 1 0 ++ vd 2 1
 
 -- "own VD 1"
 abbrev pub contradicted : List ℕ
-contradicted =
-    83 ∷ 85 ∷ 7 ∷ 0 ∷ 1 ∷ 0 ∷ 1 ∷ 0 ∷ 3 ∷ 0 ∷ 6 ∷ 0 ∷ 2 ∷ 0 ∷ 5 ∷ 0 ∷ 3 ∷ 0 ∷ 4 ∷ 0 ∷ 4 ∷ 0
-    ∷ 68 ∷ 76 ∷ 1 ∷ 0 ∷ 1 ∷ 0 ∷ 2 ∷ 0 ∷ 4 ∷ 0 ∷ 4 ∷ 0 ∷ 3 ∷ 0
-    ∷ 80 ∷ 86 ∷ 1 ∷ 0 ∷ 0 ∷ 0 ∷ 1 ∷ 0 ∷ 3 ∷ 0
-    ∷ 80 ∷ 86 ∷ 1 ∷ 0 ∷ 1 ∷ 0 ∷ 1 ∷ 0 ∷ 1 ∷ 0
-    ∷ 80 ∷ 86 ∷ 1 ∷ 0 ∷ 2 ∷ 0 ∷ 1 ∷ 0 ∷ 0 ∷ 0
-    ∷ 86 ∷ 68 ∷ 1 ∷ 0 ∷ 0 ∷ 0 ∷ 1 ∷ 0
-    ∷ 86 ∷ 68 ∷ 1 ∷ 0 ∷ 1 ∷ 0 ∷ 1 ∷ 0
-    ∷ 86 ∷ 68 ∷ 1 ∷ 0 ∷ 2 ∷ 0 ∷ 1 ∷ 0 ∷ []
+contradicted = front ++ pv 0 3 ++ pv 1 1 ++ pv 2 0 ++ vd 0 1 ++ vd 1 1 ++ vd 2 1
 
 abbrev pub workedContents : Contents
 workedContents =
@@ -77,19 +59,45 @@ unfolding tab tabFrom bytes
 worked-file = refl
 
 pub worked-read : readFile worked ≡ whole workedContents
-unfolding sum every first firstFrom tab tabFrom allBelow isField dot expected differs saidReject isKept wordsAt pairFault verdictFault markFault stepPair stepVerdict step readFor judgementOf fateOf setupFault dealingFault complete lowered ofContents ofEnd ofReceived ofDealing readFile
+unfolding sum every first firstFrom tab tabFrom allBelow isField dot expected differs saidReject isKept wordsAt pairFault verdictFault markFault recordFault faultAt reached judgementOf fateOf setupFault dealingFault ofContents ofReceived ofDealing readFile
 worked-read = refl
 
 -- "`refused 11 at 82`"
 pub last-gone-read : readFile last-gone ≡ refusedAt 11 82
-unfolding sum every first firstFrom tab tabFrom allBelow isField dot expected differs saidReject isKept wordsAt pairFault verdictFault markFault stepPair stepVerdict step readFor judgementOf fateOf setupFault dealingFault complete lowered ofContents ofEnd ofReceived ofDealing readFile
+unfolding sum every first firstFrom tab tabFrom allBelow isField dot expected differs saidReject isKept wordsAt pairFault verdictFault markFault recordFault faultAt reached judgementOf fateOf setupFault dealingFault ofContents ofReceived ofDealing readFile
 last-gone-read = refl
 
 pub rejected-read : readFile rejected ≡ whole rejectedContents
-unfolding sum every first firstFrom tab tabFrom allBelow isField dot expected differs saidReject isKept wordsAt pairFault verdictFault markFault stepPair stepVerdict step readFor judgementOf fateOf setupFault dealingFault complete lowered ofContents ofEnd ofReceived ofDealing readFile
+unfolding sum every first firstFrom tab tabFrom allBelow isField dot expected differs saidReject isKept wordsAt pairFault verdictFault markFault recordFault faultAt reached judgementOf fateOf setupFault dealingFault ofContents ofReceived ofDealing readFile
 rejected-read = refl
 
 -- "`refused 13 at 90`"
 pub contradicted-read : readFile contradicted ≡ refusedAt 13 90
-unfolding sum every first firstFrom tab tabFrom allBelow isField dot expected differs saidReject isKept wordsAt pairFault verdictFault markFault stepPair stepVerdict step readFor judgementOf fateOf setupFault dealingFault complete lowered ofContents ofEnd ofReceived ofDealing readFile
+unfolding sum every first firstFrom tab tabFrom allBelow isField dot expected differs saidReject isKept wordsAt pairFault verdictFault markFault recordFault faultAt reached judgementOf fateOf setupFault dealingFault ofContents ofReceived ofDealing readFile
 contradicted-read = refl
+
+-- "17, a PV or VD that isn't the next one due": a PV from a later sender, a VD while a PV is due, a VD of a later holder; a PV or VD again from one holder stays 10, also
+-- where all records are there; and 10 and 12 come before 17 on one record
+pub record OutOfOrder : Type 0 where
+  later-sender : readFile (front ++ pv 1 1 ++ pv 0 2 ++ pv 2 0 ++ vd 0 1 ++ vd 1 1 ++ vd 2 1) ≡ refusedAt 17 36
+  early-verdict : readFile (front ++ pv 0 2 ++ pv 1 1 ++ vd 0 1 ++ pv 2 0 ++ vd 1 1 ++ vd 2 1) ≡ refusedAt 17 56
+  later-holder : readFile (front ++ pv 0 2 ++ pv 1 1 ++ pv 2 0 ++ vd 1 1 ++ vd 0 1 ++ vd 2 1) ≡ refusedAt 17 66
+  pair-again : readFile (front ++ pv 0 2 ++ pv 1 1 ++ pv 0 2 ++ vd 0 1 ++ vd 1 1 ++ vd 2 1) ≡ refusedAt 10 56
+  pair-at-the-end : readFile (worked ++ pv 2 0) ≡ refusedAt 10 90
+  verdict-at-the-end : readFile (worked ++ vd 2 1) ≡ refusedAt 10 90
+  no-verdict-first : readFile (front ++ pv 0 2 ++ vd 2 2) ≡ refusedAt 12 46
+  again-first : readFile (front ++ pv 0 2 ++ pv 1 1 ++ pv 2 0 ++ vd 0 1 ++ vd 0 2) ≡ refusedAt 10 74
+
+pub out-of-order : OutOfOrder
+unfolding sum every first firstFrom tab tabFrom allBelow isField dot expected differs saidReject isKept wordsAt pairFault verdictFault markFault recordFault faultAt reached judgementOf fateOf setupFault dealingFault ofContents ofReceived ofDealing readFile
+out-of-order =
+    record {
+      later-sender = refl;
+      early-verdict = refl;
+      later-holder = refl;
+      pair-again = refl;
+      pair-at-the-end = refl;
+      verdict-at-the-end = refl;
+      no-verdict-first = refl;
+      again-first = refl;
+    }

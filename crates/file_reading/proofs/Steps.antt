@@ -7,7 +7,7 @@ use native.Mathlib.Omega.{arith}
 use borrow.Author.Tests.{eq-eqb, ne-eqb, lt-ltb, eqb-false, ltb-false, leb-false}
 use lib.Dec.{eqb, ltb, lit≤}
 use lib.ListN.{length, take, drop, replicate, length-drop}
-use lib.Seq.{getD-drop, getD-take, length-take-le}
+use lib.Seq.{getD-take, length-take-le}
 use Rattle.base.specs.Choice.{pick}
 use Rattle.base.specs.Rules.{refusal}
 use Rattle.base.specs.Search.{first, Vec}
@@ -30,15 +30,13 @@ use Rattle.record_layouts.specs.Words.{wordAt, wordsAt}
 use Rattle.record_layouts.proofs.Words.{length-words, getD-words}
 use Rattle.record_layouts.specs.Records.{markSU, setupAt, setupSize, dealingSize, dealingAt, dealingG, dealingH, readSetupRules, standingRules, dealingLayout, paramsAt}
 use Rattle.record_layouts.proofs.Calls.{setup-read, dim-small, matrix-small}
-use Rattle.file_records.specs.declared.Seen.{Seen}
-use Rattle.file_records.specs.Received.{readReceived, complete, lowered}
 use Rattle.file_records.specs.declared.Sent.{Sent}
 use Rattle.file_records.specs.declared.Lists.{Lists}
-use Rattle.file_records.specs.Inner.{sentFault, sentByte, Sends, Whole, Holds}
-use Rattle.file_records.proofs.Reading.{received-bounded, sent-vec}
+use Rattle.file_records.specs.Inner.{Sends, Whole, Holds}
+use Rattle.file_records.proofs.Reading.{all-pass, values-small, verdicts-small, word-behind}
 use Rattle.file_reading.specs.declared.Told.{Told}
-use Rattle.file_reading.specs.Contents.{Contents, verdictOf, judgement, fate, keptShares}
-use Rattle.file_reading.specs.File.{FileRead, refusedAt, whole, setupFault, dealingFault, headOf, contentsOf, ofContents, ofEnd, orRefused, ofReceived, ofDealing, readFile, eight, paramsOf, told}
+use Rattle.file_reading.specs.Contents.{Contents, verdictOf, judgement, fate, keptShares, headOf}
+use Rattle.file_reading.specs.File.{FileRead, refusedAt, whole, setupFault, dealingFault, ofContents, orRefused, ofReceived, ofDealing, readFile, eight, paramsOf, told}
 use Rattle.file_reading.specs.Inner.{partOf, Fair, contentsIn, Tells}
 
 -- A REFUSAL IS NO CONTENTS
@@ -86,28 +84,6 @@ refused-here (suc k) byte r n = refl
 pub goes-on : (k byte : ℕ) (r : FileRead) → k ≡ 0 → r ≡ orRefused k byte r
 goes-on zero byte r e = refl
 goes-on (suc k) byte r e = absurd (omega arith)
-
--- THE RECORDS BEHIND DL, by what was seen of them
-pub received-is : (S : Setup) (x : DealingRecord) (g h s : List ℕ) → let st = readReceived (headOf S x) s (setupSize S + dealingSize S) in
-    orRefused (sentFault (S .n) st) (sentByte (length s) st)
-    (ofContents (contentsOf S x g h (lowered (S .n) (st .values)) (lowered (S .n) (st .verdicts))) (length s))
-    ≡ ofReceived S x g h s
-unfolding ofReceived ofEnd
-received-is S x g h s =
-    let st = readReceived (headOf S x) s (setupSize S + dealingSize S) in
-    go (st .refusal) (complete (S .n) (st .values) && complete (S .n) (st .verdicts)) (st .at) (length s)
-    (ofContents (contentsOf S x g h (lowered (S .n) (st .values)) (lowered (S .n) (st .verdicts))) (length s))
-  where
-    go : (k : ℕ) (b : Bool) (byte len : ℕ) (r : FileRead)
-        → orRefused (pick (eqb k 0) (pick b 0 11) k) (pick (eqb k 0) len byte) r ≡ orRefused k byte (pick b r (refusedAt 11 len))
-    go zero true byte len r = refl
-    go zero false byte len r = refl
-    go (suc k) b byte len r = rw (ne-eqb (suc k) 0 (λ z. omega (arith, z))) refl
-
-pub received-next : (S : Setup) (x : DealingRecord) (g h s : List ℕ) (st : Seen) → st ≡ readReceived (headOf S x) s (setupSize S + dealingSize S) → st .refusal ≡ 0
-    → ofEnd S x g h st (length s) ≡ ofReceived S x g h s
-unfolding ofReceived
-received-next S x g h s st is e = rw (← is) (goes-on (st .refusal) (st .at) (ofEnd S x g h st (length s)) e)
 
 pub field-le : (p : ℕ) → isField p ≡ true → p ≤ 65521
 field-le p t = five-elim p (λ p. p ≤ 65521) (lit≤ tt) (lit≤ tt) (lit≤ tt) (lit≤ tt) (lit≤ tt) (field-five p t)
@@ -224,12 +200,6 @@ module _ (s : List ℕ) (F : Fair s) where
       (record { secret = L .secret .1; width = dim-small (setupAt s) L; entries = matrix-small (setupAt s) L; there = front-fits })
 
 -- THE LISTS OF DL in the whole file
-word-behind : (s : List ℕ) (k i : ℕ) → wordAt (drop (2 * k) s) i ≡ wordAt s (k + i)
-word-behind s k i =
-    let e : 2 * k + 2 * i ≡ 2 * (k + i) = omega arith in
-    let f : 2 * k + (2 * i + 1) ≡ 2 * (k + i) + 1 = omega arith in
-    rw (getD-drop (2 * k) s (2 * i) 0, getD-drop (2 * k) s (2 * i + 1) 0, e, f) refl
-
 pub words-behind : (s : List ℕ) (a k i c : ℕ) → a ≡ 2 * k → wordsAt (drop a s) i c ≡ wordsAt s (k + i) c
 unfolding wordsAt
 words-behind s a k i c e =
@@ -260,37 +230,33 @@ shares-read s =
     rw (w, length-words s (8 + S .n * dim S) (S .l)) (ap (λ (l : List ℕ). wordsAt s (8 + S .n * dim S) (S .l) ++ l) (drop-zeros (S .l) 8))
 
 -- ALL RECORDS, by what was received
-module _ (s : List ℕ) (F : Fair s) (r : Sent)
-    (W : Sends (setupAt s .n) (length s) (readReceived (headOf (setupAt s) (dealingAt (partOf s))) s (setupSize (setupAt s) + dealingSize (setupAt s))) r) where
+module _ (s : List ℕ) (F : Fair s) (r : Sent) (W : Sends (headOf (setupAt s) (dealingAt (partOf s))) (drop (setupSize (setupAt s) + dealingSize (setupAt s)) s) r) where
   abbrev S : Setup
   S = setupAt s
 
-  abbrev st : Seen
-  st = readReceived (headOf (setupAt s) (dealingAt (partOf s))) s (setupSize (setupAt s) + dealingSize (setupAt s))
+  abbrev from : ℕ
+  from = setupSize (setupAt s) + dealingSize (setupAt s)
 
-  abbrev end : FileRead
-  end = ofContents (contentsIn s (lowered (setupAt s .n) (st .values)) (lowered (setupAt s .n) (st .verdicts))) (length s)
+  abbrev read : FileRead
+  read = ofContents (contentsIn s (take (setupAt s .n) (r .values)) (take (setupAt s .n) (r .verdicts))) (length s)
 
-  all-read : orRefused (sentFault (S .n) st) (sentByte (length s) st) end ≡ readFile s
+  all-read : orRefused (r .refusal) (from + r .byte) read ≡ readFile s
+  unfolding ofReceived
   all-read =
-      received-is S (dealingAt (partOf s)) (dealingG S (partOf s)) (dealingH S (partOf s)) s ∙ file-next s (F .setup) S refl (F .dealing) refl refl refl
+      let x = dealingAt (partOf s) in
+      let t = drop from s in
+      rw (W .number, W .byte, W .values, W .verdicts) (file-next s (F .setup) S refl (F .dealing) refl refl refl)
 
-  pub sent-refused : (r .refusal ≡ 0 → ⊥) → refusedAt (r .refusal) (r .byte) ≡ readFile s
-  sent-refused n =
-      ap (λ (k : ℕ). refusedAt k (r .byte)) (W .number) ∙ ap (refusedAt (sentFault (S .n) st)) (W .byte)
-      ∙ refused-here (sentFault (S .n) st) (sentByte (length s) st) end (λ z. n (W .number ∙ z))
-      ∙ all-read
+  pub sent-refused : (r .refusal ≡ 0 → ⊥) → refusedAt (r .refusal) (from + r .byte) ≡ readFile s
+  sent-refused n = refused-here (r .refusal) (from + r .byte) read n ∙ all-read
 
   pub sent-next : r .refusal ≡ 0
-      → Vec (S .p) (S .n) (take (S .n) (r .values)) × Vec 2 (S .n) (take (S .n) (r .verdicts))
-      × (ofContents (contentsIn s (take (S .n) (r .values)) (take (S .n) (r .verdicts))) (length s) ≡ readFile s)
+      → Vec (S .p) (S .n) (take (S .n) (r .values)) × Vec 2 (S .n) (take (S .n) (r .verdicts)) × (read ≡ readFile s)
   sent-next z =
-      let B = received-bounded (headOf S (dealingAt (partOf s))) s (setupSize S + dealingSize S) in
-      rw (W .values, W .verdicts) (
-        sent-vec (S .p) (S .n) (st .values) (limits-pos S (setup-fair s F .0 .limits)) (B .values-small),
-        sent-vec 2 (S .n) (st .verdicts) (omega arith) (B .verdicts-small),
-        goes-on (sentFault (S .n) st) (sentByte (length s) st) end (sym (W .number) ∙ z) ∙ all-read,
-      )
+      let h = headOf S (dealingAt (partOf s)) in
+      let t = drop from s in
+      let all = all-pass h t (sym (W .number) ∙ z) .1 in
+      (rw (W .values) (values-small h t all), rw (W .verdicts) (verdicts-small h t all), goes-on (r .refusal) (from + r .byte) read z ∙ all-read)
 
 -- THE LISTS, as they were read
 pub lists-read : (s : List ℕ) (p : Params) → p ≡ paramsAt s → (r : Lists) → Holds (setupOf p []) s r

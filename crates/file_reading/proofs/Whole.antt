@@ -1,33 +1,40 @@
 -- What an accepted file says: none of its records was refused, and its contents are those that stand in it, in order.
 -- whole-setup, whole-is-setup, whole-row: the setup is the one that stands in the file, and in order; so is g
 -- whole-in-order: they break nothing
+-- whole-bytes: the file is that of its contents
 -- file-some: a file with no refusal's number has contents
 -- file-inside: a refusal's byte stands inside the file or at its end
-use Prim.Native.Nat.{ℕ, zero, suc, _+_, _≤_, _<_}
-use mathlib.Core.Bool.{Bool, true, false, _&&_}
-use mathlib.Core.List.{List}
-use mathlib.Core.Path.{_≡_, refl, sym, ap}
+-- missing: with 11, at its end: the statement of specs/Sound.antt
+use Prim.Native.Nat.{ℕ, zero, suc, _+_, _*_, _≤_, _<_}
+use mathlib.Core.Bool.{Bool, true, false}
+use mathlib.Core.List.{List, _++_, append-assoc}
+use mathlib.Core.Path.{_≡_, refl, sym, ap, _∙_}
 use native.Mathlib.Omega.{arith}
-use borrow.Author.Tests.{eqb-true}
+use borrow.Author.Tests.{eqb-true, not-false}
 use lib.Dec.{eqb}
-use lib.ListN.{length, getD, drop}
-use lib.Seq.{getD-drop}
+use lib.ListN.{length, getD, take, drop, length-drop, take-append-drop}
+use lib.Seq.{getD-drop, drop-drop}
 use Rattle.base.specs.Choice.{pick}
+use Rattle.base.specs.Rules.{refusal}
 use Rattle.base.proofs.Choice.{picked}
+use Rattle.base.proofs.Rules.{clear, never}
 use Rattle.field.specs.Dot.{at}
 use Rattle.scheme.specs.Setup.{Setup, dim, IsSetup}
-use Rattle.scheme.proofs.Calls.{limits-pos}
-use Rattle.record_layouts.specs.Words.{Bytes}
+use Rattle.record_layouts.specs.Words.{bytes, wordAt, Bytes}
 use Rattle.record_layouts.proofs.Words.{length-words}
 use Rattle.record_layouts.specs.declared.DealingRecord.{DealingRecord}
-use Rattle.record_layouts.specs.Records.{setupAt, setupSize, dealingSize, dealingAt, dealingG, dealingH}
+use Rattle.record_layouts.specs.Records.{markSU, setupWords, dealingWords, setupAt, setupSize, dealingSize, dealingAt, dealingG, dealingH, readSetupRules, standingRules, dealingLayout}
 use Rattle.record_layouts.proofs.Calls.{setup-read}
-use Rattle.file_records.specs.declared.Seen.{Seen}
-use Rattle.file_records.specs.Received.{readReceived, begin, complete, lowered}
-use Rattle.file_records.proofs.Reading.{read-inside, received-bounded, sent-vec}
-use Rattle.file_reading.specs.Contents.{Contents, InOrder, judgement, verdictOf}
-use Rattle.file_reading.specs.File.{FileRead, refusedAt, whole, numberOf, byteOf, setupFault, dealingFault, headOf, contentsOf, ofContents, ofEnd, orRefused, ofReceived, ofDealing, readFile}
-use Rattle.file_reading.proofs.Steps.{not-whole, same-contents, setup-clear, deal-clear, dealing-read, both-fit}
+use Rattle.record_layouts.proofs.Layouts.{dealing-lawful}
+use Rattle.record_layouts.proofs.Exact.{standing-bytes, setup-bytes}
+use Rattle.file_records.specs.declared.Head.{Head}
+use Rattle.file_records.specs.Received.{place, faultAt, reached, valuesAt, verdictsAt}
+use Rattle.file_records.proofs.Reading.{nothing-behind, eleven-ends, all-pass, reached-inside, values-small, verdicts-small}
+use Rattle.file_records.proofs.Records.{exact}
+use Rattle.file_reading.specs.Contents.{Contents, InOrder, judgement, verdictOf, headOf, fileBytes}
+use Rattle.file_reading.specs.File.{FileRead, refusedAt, whole, numberOf, byteOf, setupFault, dealingFault, contentsOf, ofContents, orRefused, ofReceived, ofDealing, readFile}
+use Rattle.file_reading.specs.Sound.{Missing}
+use Rattle.file_reading.proofs.Steps.{not-whole, same-contents, isSecond, setup-clear, deal-clear, dealing-read, both-fit}
 
 or-whole : (k byte : ℕ) (r : FileRead) (C : Contents) → orRefused k byte r ≡ whole C → (k ≡ 0) × (r ≡ whole C)
 or-whole zero byte r C e = (refl, e)
@@ -47,8 +54,12 @@ module _ (s : List ℕ) (C : Contents) (e : readFile s ≡ whole C) where
   x : DealingRecord
   x = dealingAt (drop (setupSize (setupAt s)) s)
 
-  seen : Seen
-  seen = readReceived (headOf (setupAt s) (dealingAt (drop (setupSize (setupAt s)) s))) s (setupSize (setupAt s) + dealingSize (setupAt s))
+  -- the records behind DL
+  sent : List ℕ
+  sent = drop (setupSize (setupAt s) + dealingSize (setupAt s)) s
+
+  head : Head
+  head = headOf (setupAt s) (dealingAt (drop (setupSize (setupAt s)) s))
 
   from-setup : (setupFault s ≡ 0) × (ofDealing (setupAt s) s ≡ whole C)
   unfolding readFile
@@ -58,25 +69,28 @@ module _ (s : List ℕ) (C : Contents) (e : readFile s ≡ whole C) where
   unfolding ofDealing S t x
   from-dealing = or-whole (dealingFault S t) (setupSize S) (ofReceived S x (dealingG S t) (dealingH S t) s) C (from-setup .1)
 
-  from-received : (seen .refusal ≡ 0) × (ofEnd S x (dealingG S t) (dealingH S t) seen (length s) ≡ whole C)
-  unfolding ofReceived S t x seen
-  from-received = or-whole (seen .refusal) (seen .at) (ofEnd S x (dealingG S t) (dealingH S t) seen (length s)) C (from-dealing .1)
-
   D : Contents
-  D = contentsOf S x (dealingG S t) (dealingH S t) (lowered (S .n) (seen .values)) (lowered (S .n) (seen .verdicts))
+  D = contentsOf S x (dealingG S t) (dealingH S t) (valuesAt (S .n) sent) (verdictsAt (S .n) sent)
 
-  from-end : ofContents D (length s) ≡ whole C
-  unfolding ofEnd D
-  from-end =
-      pick-whole (complete (S .n) (seen .values) && complete (S .n) (seen .verdicts)) (ofContents D (length s)) 11 (length s) C (from-received .1) .1
+  from-received : (faultAt head sent (reached head sent) ≡ 0) × (ofContents D (length s) ≡ whole C)
+  unfolding ofReceived S t x sent head D
+  from-received =
+      let k = reached head sent in
+      or-whole (faultAt head sent k) (setupSize S + dealingSize S + place (S .n) k) (ofContents D (length s)) C (from-dealing .1)
 
   from-contents : (eqb (at (D .verdicts) (D .holder)) (verdictOf (judgement D)) ≡ true) × (whole D ≡ whole C)
   unfolding ofContents
-  from-contents = pick-whole (eqb (at (D .verdicts) (D .holder)) (verdictOf (judgement D))) (whole D) 13 (length s) C from-end
+  from-contents = pick-whole (eqb (at (D .verdicts) (D .holder)) (verdictOf (judgement D))) (whole D) 13 (length s) C (from-received .1)
+
+  contents-are : D ≡ C
+  contents-are = same-contents D C (from-contents .1)
+
+  pass : (reached head sent ≡ 2 * head .n) × ((k : ℕ) → k < 2 * head .n → faultAt head sent k ≡ 0)
+  pass = all-pass head sent (from-received .0)
 
   pub whole-setup : C .setup ≡ setupAt s
   unfolding D S
-  whole-setup = sym (ap (λ (c : Contents). c .setup) (same-contents D C (from-contents .1)))
+  whole-setup = sym (ap (λ (c : Contents). c .setup) contents-are)
 
   pub whole-is-setup : IsSetup (C .setup)
   whole-is-setup = rw whole-setup (setup-read s (setup-clear s (from-setup .0)) .0)
@@ -84,26 +98,48 @@ module _ (s : List ℕ) (C : Contents) (e : readFile s ≡ whole C) where
   -- the row part has d entries
   pub whole-row : length (C .g) ≡ dim (C .setup)
   unfolding D S t
-  whole-row = rw (← same-contents D C (from-contents .1)) (length-words t 3 (dim S))
+  whole-row = rw (← contents-are) (length-words t 3 (dim S))
 
   pub whole-in-order : Bytes s → InOrder C
-  unfolding D S t x seen
+  unfolding D S t x head
   whole-in-order bs =
       let U = setup-read s (setup-clear s (from-setup .0)) .0 in
       let d = dealing-read S t (U .limits) (deal-clear S t (from-dealing .0)) in
-      let B = received-bounded (headOf S x) s (setupSize S + dealingSize S) in
       let small : (i : ℕ) → getD t i 0 < 256 = λ i. rw (getD-drop (setupSize S) s i 0) (bs (setupSize S + i)) in
-      rw (← same-contents D C (from-contents .1))
+      rw (← contents-are)
       (record {
         setup = U;
         dealing = (omega (arith, d .4), omega (arith, small 2, small 3));
         holder = d .0;
         row = d .1;
         column = d .2;
-        received = sent-vec (S .p) (S .n) (seen .values) (limits-pos S (U .limits)) (B .values-small);
-        heard = sent-vec 2 (S .n) (seen .verdicts) (omega arith) (B .verdicts-small);
+        received = values-small head sent (pass .1);
+        heard = verdicts-small head sent (pass .1);
         own = eqb-true _ _ (from-contents .0);
       })
+
+  -- and the file is that of these contents
+  pub whole-bytes : Bytes s → s ≡ fileBytes C
+  unfolding D S t x head sent
+  whole-bytes bs =
+      let U = setup-read s (setup-clear s (from-setup .0)) in
+      let mark = eqb-true (wordAt s 0) markSU (not-false _ (clear (readSetupRules s) tt (setup-clear s (from-setup .0)) .1 .0)) in
+      let c = clear (standingRules dealingLayout S t) tt (deal-clear S t (from-dealing .0)) in
+      let su = setup-bytes s bs mark (U .1) in
+      let dl = standing-bytes dealingLayout dealing-lawful S t (behind (setupSize S)) (c .0, (c .1 .0, (c .1 .1 .0, tt))) in
+      let end : length sent ≤ place (head .n) (2 * head .n) = nothing-behind head (2 * head .n) sent refl (sym (ap (faultAt head sent) (pass .0)) ∙ from-received .0) in
+      let rest = exact head sent (behind (setupSize S + dealingSize S)) (pass .1) end in
+      let a = take (setupSize S) s in
+      let b = take (dealingSize S) t in
+      let split : s ≡ a ++ b ++ sent =
+      sym (take-append-drop (setupSize S) s) ∙ ap (λ (l : List ℕ). a ++ l) (sym (take-append-drop (dealingSize S) t) ∙ ap (λ (l : List ℕ). b ++ l) (drop-drop (dealingSize S) (setupSize S) s))
+      ∙ sym (append-assoc a b sent) in
+      rw (← contents-are)
+      (split ∙ ap (λ (l : List ℕ). l ++ b ++ sent) su ∙ ap (λ (l : List ℕ). bytes (setupWords S) ++ l ++ sent) dl
+      ∙ ap (λ (l : List ℕ). bytes (setupWords S) ++ bytes (dealingWords x (dealingG S t) (dealingH S t)) ++ l) rest)
+    where
+      behind : (a : ℕ) → Bytes (drop a s)
+      behind a i = rw (getD-drop a s i 0) (bs (a + i))
 
 -- A FILE IS REFUSED OR HAS CONTENTS
 pub record HasContents (x : FileRead) : Type 0 where
@@ -124,21 +160,17 @@ unfolding ofContents
 contents-some C n e =
     pick-some (eqb (at (C .verdicts) (C .holder)) (verdictOf (judgement C))) (whole C) 13 n (λ z. omega (arith, z)) (λ z. record { contents = C; is = refl }) e
 
-end-some : (S : Setup) (x : DealingRecord) (g h : List ℕ) (st : Seen) (n : ℕ) → numberOf (ofEnd S x g h st n) ≡ 0 → HasContents (ofEnd S x g h st n)
-unfolding ofEnd
-end-some S x g h st n e =
-    let C = contentsOf S x g h (lowered (S .n) (st .values)) (lowered (S .n) (st .verdicts)) in
-    pick-some (complete (S .n) (st .values) && complete (S .n) (st .verdicts)) (ofContents C n) 11 n (λ z. omega (arith, z)) (contents-some C n) e
-
 pub file-some : (s : List ℕ) → numberOf (readFile s) ≡ 0 → HasContents (readFile s)
 unfolding readFile ofDealing ofReceived
 file-some s e =
     let S = setupAt s in
     let t = drop (setupSize S) s in
-    let st = readReceived (headOf S (dealingAt t)) s (setupSize S + dealingSize S) in
+    let h = headOf S (dealingAt t) in
+    let sent = drop (setupSize S + dealingSize S) s in
+    let C = contentsOf S (dealingAt t) (dealingG S t) (dealingH S t) (valuesAt (S .n) sent) (verdictsAt (S .n) sent) in
     or-some (setupFault s) 0 (ofDealing S s)
     (or-some (dealingFault S t) (setupSize S) (ofReceived S (dealingAt t) (dealingG S t) (dealingH S t) s)
-    (or-some (st .refusal) (st .at) (ofEnd S (dealingAt t) (dealingG S t) (dealingH S t) st (length s)) (end-some S (dealingAt t) (dealingG S t) (dealingH S t) st (length s)))) e
+    (or-some (faultAt h sent (reached h sent)) _ (ofContents C (length s)) (contents-some C (length s)))) e
 
 -- A REFUSAL'S BYTE
 or-inside : (k byte n : ℕ) (r : FileRead) → byte ≤ n → (k ≡ 0 → byteOf r ≤ n) → byteOf (orRefused k byte r) ≤ n
@@ -149,22 +181,68 @@ contents-inside : (C : Contents) (n : ℕ) → byteOf (ofContents C n) ≤ n
 unfolding ofContents
 contents-inside C n = picked (λ x. byteOf x ≤ n) (eqb (at (C .verdicts) (C .holder)) (verdictOf (judgement C))) (whole C) (refusedAt 13 n) (omega arith) (omega arith)
 
-end-inside : (S : Setup) (x : DealingRecord) (g h : List ℕ) (st : Seen) (n : ℕ) → byteOf (ofEnd S x g h st n) ≤ n
-unfolding ofEnd
-end-inside S x g h st n =
-    let C = contentsOf S x g h (lowered (S .n) (st .values)) (lowered (S .n) (st .verdicts)) in
-    picked (λ x. byteOf x ≤ n) (complete (S .n) (st .values) && complete (S .n) (st .verdicts)) (ofContents C n) (refusedAt 11 n) (contents-inside C n) (omega arith)
-
 pub file-inside : (s : List ℕ) → byteOf (readFile s) ≤ length s
 unfolding readFile ofDealing ofReceived
 file-inside s =
     let S = setupAt s in
     let t = drop (setupSize S) s in
+    let h = headOf S (dealingAt t) in
+    let from = setupSize S + dealingSize S in
+    let sent = drop from s in
     let n = length s in
-    let st = readReceived (headOf S (dealingAt t)) s (setupSize S + dealingSize S) in
+    let C = contentsOf S (dealingAt t) (dealingG S t) (dealingH S t) (valuesAt (S .n) sent) (verdictsAt (S .n) sent) in
     or-inside (setupFault s) 0 n (ofDealing S s) (omega arith) (λ z.
     let U = setup-read s (setup-clear s z) in
     or-inside (dealingFault S t) (setupSize S) n (ofReceived S (dealingAt t) (dealingG S t) (dealingH S t) s) (U .1) (λ y.
     let f = both-fit (setupSize S) (dealingSize S) s (U .1) (dealing-read S t (U .0 .limits) (deal-clear S t y) .3) in
-    or-inside (st .refusal) (st .at) n (ofEnd S (dealingAt t) (dealingG S t) (dealingH S t) st n) (read-inside n (headOf S (dealingAt t)) s (begin (setupSize S + dealingSize S)) f)
-    (λ w. end-inside S (dealingAt t) (dealingG S t) (dealingH S t) st n)))
+    or-inside (faultAt h sent (reached h sent)) (from + place (S .n) (reached h sent)) n (ofContents C n) (omega (arith, f, reached-inside h sent, length-drop from s))
+    (λ w. contents-inside C n)))
+
+-- A RECORD THAT IS MISSING
+abbrev AtEnd : ℕ → FileRead → Type 0
+AtEnd n x = (byte : ℕ) → x ≡ refusedAt 11 byte → byte ≡ n
+
+or-end : (k byte n : ℕ) (r : FileRead) → (k ≡ 11 → byte ≡ n) → (k ≡ 0 → AtEnd n r) → AtEnd n (orRefused k byte r)
+or-end zero byte n r f g b e = g refl b e
+or-end (suc k) byte n r f g b e = sym (ap byteOf e) ∙ f (ap numberOf e)
+
+no-setup : (s : List ℕ) → setupFault s ≡ 11 → 0 ≡ length s
+unfolding setupFault
+no-setup s = go (eqb (length s) 0) refl
+  where
+    go : (b : Bool) → eqb (length s) 0 ≡ b → pick b 11 (refusal (readSetupRules s)) ≡ 11 → 0 ≡ length s
+    go true q e = sym (eqb-true (length s) 0 q)
+    go false q e = absurd (never 11 (readSetupRules s) (omega arith) tt e)
+
+no-dealing : (S : Setup) (t : List ℕ) → dealingFault S t ≡ 11 → length t ≡ 0
+unfolding dealingFault
+no-dealing S t = go (eqb (length t) 0) refl (isSecond t)
+  where
+    go : (b : Bool) → eqb (length t) 0 ≡ b → (c : Bool) → pick b 11 (pick c 10 (refusal (standingRules dealingLayout S t))) ≡ 11 → length t ≡ 0
+    go true q c e = eqb-true (length t) 0 q
+    go false q true e = absurd (omega arith)
+    go false q false e = absurd (never 11 (standingRules dealingLayout S t) (omega arith) tt e)
+
+contents-end : (C : Contents) (n : ℕ) → AtEnd n (ofContents C n)
+unfolding ofContents
+contents-end C n =
+    picked (AtEnd n) (eqb (at (C .verdicts) (C .holder)) (verdictOf (judgement C))) (whole C) (refusedAt 13 n)
+    (λ b e. absurd (not-whole 11 b C (sym e))) (λ b e. absurd (omega (arith, ap numberOf e)))
+
+pub missing : Missing
+unfolding readFile ofDealing ofReceived
+missing s =
+    let S = setupAt s in
+    let t = drop (setupSize S) s in
+    let h = headOf S (dealingAt t) in
+    let from = setupSize S + dealingSize S in
+    let sent = drop from s in
+    let k = reached h sent in
+    let n = length s in
+    let C = contentsOf S (dealingAt t) (dealingG S t) (dealingH S t) (valuesAt (S .n) sent) (verdictsAt (S .n) sent) in
+    or-end (setupFault s) 0 n (ofDealing S s) (no-setup s) (λ z.
+    let U = setup-read s (setup-clear s z) in
+    or-end (dealingFault S t) (setupSize S) n (ofReceived S (dealingAt t) (dealingG S t) (dealingH S t) s) (λ e. omega (arith, no-dealing S t e, U .1, length-drop (setupSize S) s)) (λ y.
+    let f = both-fit (setupSize S) (dealingSize S) s (U .1) (dealing-read S t (U .0 .limits) (deal-clear S t y) .3) in
+    or-end (faultAt h sent k) (from + place (S .n) k) n (ofContents C n) (λ e. omega (arith, f, eleven-ends h sent k e, reached-inside h sent, length-drop from s))
+    (λ w. contents-end C n)))

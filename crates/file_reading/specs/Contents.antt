@@ -3,13 +3,12 @@
 -- verdictOf: the verdict that says a judgement
 -- judgement, fate, keptShares: those of the contents; the shares where the dealing is kept, and none where it is aborted
 -- InOrder: contents that break nothing
--- fileBytes: the contents as a file, PV by rising sender and then VD by rising holder
+-- fileBytes: the contents as a file
 use mathlib.Core.Path.{_≡_}
 use mathlib.Core.List.{List, [], _++_}
 use Prim.Native.Nat.{ℕ, _≤_, _<_}
 use Rattle.base.specs.Choice.{pick}
 use Rattle.base.specs.Search.{Vec}
-use Rattle.base.specs.Fill.{tab}
 use Rattle.field.specs.Dot.{at}
 use Rattle.scheme.specs.declared.Judgement.{Judgement}
 use Rattle.scheme.specs.declared.Judgement.the-variants.{Accept, Reject}
@@ -18,7 +17,9 @@ use Rattle.scheme.specs.Setup.{Setup, dim, IsSetup}
 use Rattle.scheme.specs.Dealing.{judgementOf, isKept, fateOf, shares}
 use Rattle.record_layouts.specs.Words.{bytes}
 use Rattle.record_layouts.specs.Records.{setupWords, dealingWords}
-use Rattle.file_records.specs.Received.{Received, pair, verdict, body}
+use Rattle.record_layouts.specs.declared.DealingRecord.{DealingRecord}
+use Rattle.file_records.specs.declared.Head.{Head}
+use Rattle.file_records.specs.Received.{pairs, verdicts}
 
 pub record Contents : Type 0 where
   pub setup : Setup
@@ -53,15 +54,15 @@ pub record InOrder (C : Contents) : Type 0 where
   pub heard : Vec 2 (C .setup .n) (C .verdicts)
   pub own : at (C .verdicts) (C .holder) ≡ verdictOf (judgement C)
 
--- "A holder's file is SU, then that holder's DL, then its n PV and everyone's n VD"
-abbrev pub pairs : Contents → List Received
-pairs C = tab (C .setup .n) (λ j. pair (record { dealing = C .dealing; sender = j; receiver = C .holder; value = at (C .values) j }))
+-- its numbers of DL, and what its PV and VD are held against
+abbrev pub numbers : Contents → DealingRecord
+numbers C = record { dealing = C .dealing; holder = C .holder }
 
-abbrev pub verdicts : Contents → List Received
-verdicts C = tab (C .setup .n) (λ j. verdict (record { dealing = C .dealing; holder = j; verdict = at (C .verdicts) j }))
+abbrev pub headOf : Setup → DealingRecord → Head
+headOf S x = record { p = S .p; n = S .n; dealing = x .dealing; holder = x .holder }
 
+-- "A holder's file is SU, then that holder's DL"; "After DL the PV records now come by rising sender, then the VD records by rising holder"
 abbrev pub fileBytes : Contents → List ℕ
 fileBytes C =
-    bytes (setupWords (C .setup))
-    ++ bytes (dealingWords (record { dealing = C .dealing; holder = C .holder }) (C .g) (C .h))
-    ++ body (pairs C ++ verdicts C)
+    let h = headOf (C .setup) (numbers C) in
+    bytes (setupWords (C .setup)) ++ bytes (dealingWords (numbers C) (C .g) (C .h)) ++ (pairs h (C .values) ++ verdicts h (C .verdicts))

@@ -1,10 +1,8 @@
--- A holder's file read to its end (document 01, "Records": "A holder's file is SU, then that holder's DL, then its n PV and everyone's n VD in any order"; "In a file
--- the first faulty record decides").
+-- A holder's file read to its end (document 01, "In a file the first faulty record decides"; document 02, A2).
 -- FileRead: a refusal with the byte where the faulty record starts, or the contents
 -- setupFault, dealingFault: the refusal of the first record, and of the second
--- headOf: what PV and VD are held against
 -- contentsOf: the contents from what stands in SU and DL and what was received
--- ofContents, ofEnd, ofReceived, ofDealing, readFile: what is read from the contents, from the file's end, from its PV and VD on, from its DL and its start on
+-- ofContents, ofReceived, ofDealing, readFile: what is read from the contents, from the file's PV and VD on, from its DL and its start on
 -- orRefused: a refusal, or what follows
 -- numberOf, byteOf: the refusal's number, 0 where there is none, and its byte
 -- eight, paramsOf, told: the contents as the code tells them
@@ -21,11 +19,9 @@ use Rattle.scheme.specs.Setup.{Setup}
 use Rattle.record_layouts.specs.Words.{wordAt}
 use Rattle.record_layouts.specs.declared.DealingRecord.{DealingRecord}
 use Rattle.record_layouts.specs.Records.{markSU, setupAt, setupSize, dealingSize, dealingAt, dealingG, dealingH, readSetupRules, standingRules, dealingLayout}
-use Rattle.file_records.specs.declared.Head.{Head}
-use Rattle.file_records.specs.declared.Seen.{Seen}
-use Rattle.file_records.specs.Received.{readReceived, complete, lowered}
+use Rattle.file_records.specs.Received.{place, faultAt, reached, valuesAt, verdictsAt}
 use Rattle.file_reading.specs.declared.Told.{Told}
-use Rattle.file_reading.specs.Contents.{Contents, judgement, verdictOf, fate, keptShares}
+use Rattle.file_reading.specs.Contents.{Contents, judgement, verdictOf, fate, keptShares, headOf}
 
 pub data FileRead : Type 0 where
   refusedAt : (number byte : ℕ) → FileRead
@@ -42,35 +38,27 @@ dealingFault S t =
     pick (eqb (length t) 0) 11
     (pick (not (ltb (length t) 2) && eqb (wordAt t 0) markSU) 10 (refusal (standingRules dealingLayout S t)))
 
-abbrev pub headOf : Setup → DealingRecord → Head
-headOf S x = record { p = S .p; n = S .n; dealing = x .dealing; holder = x .holder }
-
 abbrev pub contentsOf : Setup → DealingRecord → (g h values verdicts : List ℕ) → Contents
 contentsOf S x g h values verdicts =
     record { setup = S; dealing = x .dealing; holder = x .holder; g = g; h = h; values = values; verdicts = verdicts }
 
--- "13: own VD differs from own judgement"; the file has `len` bytes
+-- "13: own VD differs from own judgement"; "11 and 13 come last, in that order"; the file has `len` bytes
 unfoldable pub ofContents : Contents → ℕ → FileRead
 ofContents C len = pick (eqb (at (C .verdicts) (C .holder)) (verdictOf (judgement C))) (whole C) (refusedAt 13 len)
-
--- "11: file ends with a record missing"; "11 and 13 come last, in that order"
-unfoldable pub ofEnd : Setup → DealingRecord → List ℕ → List ℕ → Seen → ℕ → FileRead
-ofEnd S x g h st len =
-    pick (complete (S .n) (st .values) && complete (S .n) (st .verdicts))
-    (ofContents (contentsOf S x g h (lowered (S .n) (st .values)) (lowered (S .n) (st .verdicts))) len)
-    (refusedAt 11 len)
 
 -- a fault's number and the byte where the record starts, or what follows where there is none
 abbrev pub orRefused : ℕ → ℕ → FileRead → FileRead
 orRefused zero byte r = r
 orRefused (suc k) byte r = refusedAt (suc k) byte
 
+-- "B the byte where the record starts, or the file's length for 11 and 13": where the file ends and a record is missing, its length is the byte where that would start
 unfoldable pub ofReceived : Setup → DealingRecord → List ℕ → List ℕ → List ℕ → FileRead
 ofReceived S x g h s =
-    let st = readReceived (headOf S x) s (setupSize S + dealingSize S) in
-    orRefused (st .refusal) (st .at) (ofEnd S x g h st (length s))
+    let from = setupSize S + dealingSize S in
+    let t = drop from s in
+    let k = reached (headOf S x) t in
+    orRefused (faultAt (headOf S x) t k) (from + place (S .n) k) (ofContents (contentsOf S x g h (valuesAt (S .n) t) (verdictsAt (S .n) t)) (length s))
 
--- "B the byte where the record starts, or the file's length for 11 and 13": where the file ends with SU, its length is that byte
 unfoldable pub ofDealing : Setup → List ℕ → FileRead
 ofDealing S s =
     let t = drop (setupSize S) s in

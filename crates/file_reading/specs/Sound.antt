@@ -1,19 +1,21 @@
--- That files are read: a reader that refused every file, or took accept for another number, would keep the definitions of File.antt and fail here.
+-- That an accepted file's bytes follow from its contents (document 02, A2: "The sentence that any order prints the same gives way to this: an accepted file's bytes
+-- follow from its contents"), and that files are read: a reader that refused every file, or took accept for another number, would keep the definitions of File.antt and
+-- fail here.
+-- Written: an accepted file is that of the contents read from it, which break nothing
 -- Accepted, ReadsBack: the file of any contents in order is accepted, and what is read is those contents
--- headIn: what PV and VD are held against, from the bytes of SU and DL
--- SameRead: files that differ only in the order of their PV and VD are read alike
+-- Follows: so bytes and contents follow from each other
+-- Missing: a record is missing only where the file ends
 use mathlib.Core.Path.{_≡_}
-use mathlib.Core.List.{List, _++_}
-use Prim.Native.Nat.{ℕ, _+_, _≤_}
+use mathlib.Core.List.{List}
+use Prim.Native.Nat.{ℕ, _≤_}
 use lib.ListN.{length}
 use Rattle.record_layouts.specs.Words.{Bytes}
-use Rattle.record_layouts.specs.Records.{setupAt, setupSize, dealingSize, dealingAt}
-use Rattle.file_records.specs.declared.Head.{Head}
-use Rattle.file_records.specs.Received.{Received, body, readReceived}
-use Rattle.file_records.specs.Sound.{Same}
 use Rattle.file_reading.specs.Contents.{Contents, InOrder, fileBytes}
-use Rattle.file_reading.specs.File.{whole, headOf, readFile}
-use Rattle.file_reading.specs.Inner.{partOf}
+use Rattle.file_reading.specs.File.{refusedAt, whole, readFile}
+
+pub record Written (s : List ℕ) (C : Contents) : Type 0 where
+  pub in-order : InOrder C
+  pub same : s ≡ fileBytes C
 
 -- the file is one of bytes and within the limit, "It reads at most 4,096 bytes", and reads back
 pub record Accepted (C : Contents) : Type 0 where
@@ -24,12 +26,14 @@ pub record Accepted (C : Contents) : Type 0 where
 abbrev pub ReadsBack : Type 0
 ReadsBack = (C : Contents) → InOrder C → Accepted C
 
--- "Two files that differ only in that order and are both read to the end print the same": a is an SU and a DL
-abbrev pub headIn : List ℕ → Head
-headIn a = headOf (setupAt a) (dealingAt (partOf a))
+pub record Follows : Type 0 where
+  pub written : (s : List ℕ) (C : Contents) → Bytes s → readFile s ≡ whole C → Written s C
+  pub reads-back : ReadsBack
+  -- "two accepted files with equal contents are equal byte for byte"
+  pub bytes : (s t : List ℕ) (C D : Contents) → Bytes s → Bytes t → readFile s ≡ whole C → readFile t ≡ whole D → C ≡ D → s ≡ t
+  -- and two accepted files with equal bytes have equal contents
+  pub contents : (s t : List ℕ) (C D : Contents) → readFile s ≡ whole C → readFile t ≡ whole D → s ≡ t → C ≡ D
 
-abbrev pub SameRead : Type 0
-SameRead =
-    (a : List ℕ) (rs qs : List Received) → length a ≡ setupSize (setupAt a) + dealingSize (setupAt a) → Same rs qs
-    → readReceived (headIn a) (a ++ body rs) (length a) .refusal ≡ 0 → readReceived (headIn a) (a ++ body qs) (length a) .refusal ≡ 0
-    → readFile (a ++ body rs) ≡ readFile (a ++ body qs)
+-- "Refusal 11 is left for files that end too soon"; "B the byte where the record starts, or the file's length for 11 and 13"
+abbrev pub Missing : Type 0
+Missing = (s : List ℕ) (byte : ℕ) → readFile s ≡ refusedAt 11 byte → byte ≡ length s

@@ -152,11 +152,12 @@ fn read_parts(file: &[u8]) -> Parts
         dealing: x.dealing,
         holder: x.holder,
     };
-    let sent = file_records::read_received(file, front.byte, head);
+    let from = front.byte;
+    let sent = file_records::read_received(&file[from..], head);
     let values = sent.values;
     let verdicts = sent.verdicts;
     parts.refusal = sent.refusal;
-    parts.byte = sent.byte;
+    parts.byte = from + sent.byte;
     parts.values = values;
     parts.verdicts = verdicts;
     parts

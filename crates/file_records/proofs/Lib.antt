@@ -1,3 +1,2 @@
 pub mod Reading
-pub mod Table
-pub mod Order
+pub mod Records

@@ -1,3 +1,2 @@
 pub mod Received
 pub mod Inner
-pub mod Sound

@@ -1,12 +1,14 @@
-// The records of a holder's file behind its SU and DL: its PV and VD, read one after the other to the file's end or to the first that is faulty;
-// and the lists that stand in its SU and DL.
+// The records of a holder's file behind its SU and DL: its PV by rising sender, then its VD by rising holder, read to the file's end or to the first that is
+// faulty or missing; and the lists that stand in its SU and DL.
 ghost use mathlib.Core.Path.{_≡_};
 ghost use mathlib.Core.List.{[]};
-ghost use Prim.Native.Nat.{_≤_, _<_};
-ghost use lib.ListN.{length, getD, take};
+ghost use Prim.Native.Nat.{_+_, _*_, _≤_};
+ghost use lib.ListN.{length, take};
+ghost use Rattle.base.specs.Fill.{tab};
 ghost use Rattle.scheme.specs.Setup.{setupOf};
-ghost use Rattle.file_records.specs.Received.{pairFault, verdictFault, markFault, refuse, takePair, takeVerdict, stepPair, stepVerdict, readReceived, complete, lowered, step as Received·step};
-ghost use Rattle.file_records.specs.Inner.{Inside, Sends, Whole, Holds};
+ghost use Rattle.record_layouts.specs.Words.{wordAt};
+ghost use Rattle.file_records.specs.Received.{place, pairFault, verdictFault, markFault, recordFault, faultAt, reached};
+ghost use Rattle.file_records.specs.Inner.{Sends, Whole, Holds};
 use record_layouts::PairRecord;
 use record_layouts::VerdictRecord;
 use scheme::Params;
@@ -19,15 +21,7 @@ pub struct Head {
     pub holder: u16,
 }
 
-// The byte reached, the refusal or 0, and for each holder 0 or one more than its pair value, 0 or one more than its verdict.
-pub struct Seen {
-    pub at: usize,
-    pub refusal: u16,
-    pub values: [u16; 32],
-    pub verdicts: [u16; 32],
-}
-
-// The refusal or 0, and the byte where the faulty record starts or the file's length; and what the n holders sent, by sender.
+// The refusal or 0, and the byte where the faulty record starts or a missing one would; and what the n holders sent, by sender.
 pub struct Sent {
     pub refusal: u16,
     pub byte: usize,
@@ -42,21 +36,30 @@ pub struct Lists {
     pub h: [u16; 16],
 }
 
-// Entry i, 0 past the end.
-fn entry(t: &[u16], i: u16) -> u16
-    ensures { λ r. ⌜ r ≡ getD (now (t .entry)) i 0 ⌝ }
+// The byte where record k starts, counted from where DL ends: each PV before it has ten and each VD eight.
+fn place(n: u16, k: u16) -> usize
+    requires { ⌜ (n ≤ 32) × (k ≤ 64) ⌝ }
+    ensures { λ r. ⌜ r ≡ place n k ⌝ }
 {
-    let k = i as usize;
-    if k < t.len() { t[k] } else { 0 }
+    let i = k as usize;
+    if k < n {
+        return record_layouts::PAIR_SIZE * i;
+    }
+    record_layouts::VERDICT_SIZE * i + 2 * (n as usize)
 }
 
-fn pair_fault(h: Head, x: PairRecord, had: u16) -> u16
-    ensures { λ r. ⌜ r ≡ pairFault h x had ⌝ }
+// A PV with the fields x, of which len bytes are there, where record k is due.
+fn pair_fault(x: PairRecord, len: usize, h: Head, k: u16) -> u16
+    ensures { λ r. ⌜ r ≡ pairFault h k len x ⌝ }
 {
+    let sender = x.sender;
+    if len < record_layouts::PAIR_SIZE {
+        return 3;
+    }
     if h.p <= x.value {
         return 4;
     }
-    if h.n <= x.sender {
+    if h.n <= sender {
         return 5;
     }
     if x.receiver != h.holder {
@@ -65,22 +68,36 @@ fn pair_fault(h: Head, x: PairRecord, had: u16) -> u16
     if x.dealing != h.dealing {
         return 9;
     }
-    if had != 0 { 10 } else { 0 }
+    if sender < k {
+        return 10;
+    }
+    if k < sender { 17 } else { 0 }
 }
 
-fn verdict_fault(h: Head, x: VerdictRecord, had: u16) -> u16
-    ensures { λ r. ⌜ r ≡ verdictFault h x had ⌝ }
+// A VD likewise; that of holder i is record n + i.
+fn verdict_fault(x: VerdictRecord, len: usize, h: Head, k: u16) -> u16
+    requires { ⌜ h .n ≤ 32 ⌝ }
+    ensures { λ r. ⌜ r ≡ verdictFault h k len x ⌝ }
 {
-    if h.n <= x.holder {
+    let holder = x.holder;
+    let verdict = x.verdict;
+    if len < record_layouts::VERDICT_SIZE {
+        return 3;
+    }
+    if h.n <= holder {
         return 5;
     }
     if x.dealing != h.dealing {
         return 9;
     }
-    if had != 0 {
+    let own = h.n + holder;
+    if own < k {
         return 10;
     }
-    if 2 <= x.verdict { 12 } else { 0 }
+    if 2 <= verdict {
+        return 12;
+    }
+    if k < own { 17 } else { 0 }
 }
 
 fn mark_fault(m: u16) -> u16
@@ -95,173 +112,83 @@ fn mark_fault(m: u16) -> u16
     8
 }
 
-fn refused(st: Seen, k: u16) -> Seen
-    ensures { λ r. ⌜ r ≡ refuse st k ⌝ }
+// The record that stands at the start of u, where record k is due.
+fn record_fault(u: &[u8], h: Head, k: u16) -> u16
+    requires { ⌜ h .n ≤ 32 ⌝ }
+    ensures { λ r. ⌜ r ≡ recordFault h k (now (u .entry)) ⌝ }
 {
-    let mut t = st;
-    t.refusal = k;
-    t
-}
-
-fn take_pair(st: Seen, x: PairRecord) -> Seen
-    requires { ⌜ (x .sender < 32) × (x .value < 65535) × (st .at ≤ 4096) ⌝ }
-    ensures { λ r. ⌜ r ≡ takePair st x ⌝ }
-{
-    let mut t = st;
-    t.at = st.at + record_layouts::PAIR_SIZE;
-    let i = x.sender as usize;
-    t.values[i] = x.value + 1;
-    t
-}
-
-fn take_verdict(st: Seen, x: VerdictRecord) -> Seen
-    requires { ⌜ (x .holder < 32) × (x .verdict < 65535) × (st .at ≤ 4096) ⌝ }
-    ensures { λ r. ⌜ r ≡ takeVerdict st x ⌝ }
-{
-    let mut t = st;
-    t.at = st.at + record_layouts::VERDICT_SIZE;
-    let i = x.holder as usize;
-    t.verdicts[i] = x.verdict + 1;
-    t
-}
-
-fn step_pair(st: Seen, x: PairRecord, len: usize, h: Head) -> Seen
-    requires { ⌜ (h .p ≤ 65521) × (h .n ≤ 32) × (st .at ≤ 4096) ⌝ }
-    ensures { λ r. ⌜ r ≡ stepPair h len x st ⌝ }
-{
-    if len < record_layouts::PAIR_SIZE {
-        return refused(st, 3);
-    }
-    let had = entry(&st.values, x.sender);
-    let k = pair_fault(h, x, had);
-    if k == 0 {
-        take_pair(st, x)
-    } else {
-        refused(st, k)
-    }
-}
-
-fn step_verdict(st: Seen, x: VerdictRecord, len: usize, h: Head) -> Seen
-    requires { ⌜ (h .n ≤ 32) × (st .at ≤ 4096) ⌝ }
-    ensures { λ r. ⌜ r ≡ stepVerdict h len x st ⌝ }
-{
-    if len < record_layouts::VERDICT_SIZE {
-        return refused(st, 3);
-    }
-    let had = entry(&st.verdicts, x.holder);
-    let k = verdict_fault(h, x, had);
-    if k == 0 {
-        take_verdict(st, x)
-    } else {
-        refused(st, k)
-    }
-}
-
-// The record that stands at the start of t, the file from the byte reached on.
-fn step(st: Seen, t: &[u8], h: Head) -> Seen
-    requires { ⌜ (h .p ≤ 65521) × (h .n ≤ 32) × (st .at ≤ 4096) ⌝ }
-    ensures { λ r. ⌜ r ≡ Received·step h (now (t .entry)) st ⌝ }
-{
-    let m = record_layouts::word(t, 0);
-    let x = record_layouts::pair_at(t);
-    let y = record_layouts::verdict_at(t);
-    if t.len() < 2 {
-        return refused(st, 3);
+    let m = record_layouts::word(u, 0);
+    if u.len() < 2 {
+        return 3;
     }
     if m == record_layouts::MARK_PV {
-        return step_pair(st, x, t.len(), h);
+        return pair_fault(record_layouts::pair_at(u), u.len(), h, k);
     }
     if m == record_layouts::MARK_VD {
-        return step_verdict(st, y, t.len(), h);
+        return verdict_fault(record_layouts::verdict_at(u), u.len(), h, k);
     }
-    refused(st, mark_fault(m))
+    mark_fault(m)
 }
 
-// The records from a byte on, to the file's end or to the first that is faulty.
-fn read_records(s: &[u8], at: usize, h: Head) -> Seen
-    requires { ⌜ Inside h at (length (now s)) ⌝ }
-    ensures { λ r. ⌜ r ≡ readReceived h (now (s .entry)) at ⌝ }
+// Record k of t, the file from the byte on where DL ends. It may be missing, and behind the last one nothing is due.
+fn fault_at(t: &[u8], h: Head, k: u16) -> u16
+    requires { ⌜ (h .n ≤ 32) × (k ≤ 64) ⌝ }
+    ensures { λ r. ⌜ r ≡ faultAt h (now (t .entry)) k ⌝ }
 {
-    let mut st = Seen {
-        at,
-        refusal: 0,
-        values: [0; 32],
-        verdicts: [0; 32],
-    };
-    let mut i = 0;
-    while i < s.len() {
-        let place = st.at;
-        if s.len() <= place {
-            return st;
-        }
-        let t = &s[place..];
-        st = step(st, t, h);
-        if st.refusal != 0 {
-            return st;
-        }
-        i += 1;
+    let at = place(h.n, k);
+    if t.len() <= at {
+        return if k < 2 * h.n { 11 } else { 0 };
     }
-    st
+    record_fault(&t[at..], h, k)
 }
 
-// Whether each of the first n holders has sent its record.
-fn complete(n: usize, seen: &[u16]) -> bool
-    requires { ⌜ n ≤ length (now seen) ⌝ }
-    ensures { λ r. ⌜ r ≡ complete n (now (seen .entry)) ⌝ }
+// The first record that is faulty or missing, or the number of records.
+fn reached(t: &[u8], h: Head) -> u16
+    requires { ⌜ h .n ≤ 32 ⌝ }
+    ensures { λ r. ⌜ r ≡ reached h (now (t .entry)) ⌝ }
 {
-    let mut i = 0;
-    while i < n {
-        if seen[i] == 0 {
-            return false;
+    let count = 2 * h.n;
+    let mut k = 0;
+    while k < count {
+        if fault_at(t, h, k) != 0 {
+            return k;
         }
-        i += 1;
+        k += 1;
     }
-    true
+    count
 }
 
-// What the first n holders sent, each one less than what is seen.
-fn lower(n: usize, seen: &[u16]) -> [u16; 32]
-    requires { ⌜ (n ≤ 32) × (n ≤ length (now seen)) ⌝ }
-    ensures { λ r. ⌜ (length r ≡ 32) × (take n r ≡ lowered n (now (seen .entry))) ⌝ }
+// n words of t, word i the first and each `step` words behind the one before.
+fn words_apart(t: &[u8], i: usize, step: usize, n: usize) -> [u16; 32]
+    requires { ⌜ (i ≤ 1000) × (step ≤ 5) × (n ≤ 32) ⌝ }
+    ensures { λ r. ⌜ (length r ≡ 32) × (take n r ≡ tab n (λ j. wordAt (now (t .entry)) (i + step * j))) ⌝ }
 {
     let mut out = [0u16; 32];
-    let mut i = 0;
-    while i < n {
-        let x = seen[i];
-        out[i] = if x == 0 { 0 } else { x - 1 };
-        i += 1;
+    let mut j = 0;
+    while j < n {
+        out[j] = record_layouts::word(t, i + step * j);
+        j += 1;
     }
     out
 }
 
-// The PV and VD from a byte on, read to the file's end; there a record may be missing.
-pub fn read_received(s: &[u8], at: usize, h: Head) -> Sent
-    requires { ⌜ Inside h at (length (now s)) ⌝ }
-    ensures { λ r. ⌜ Sends (h .n) (length (now (s .entry))) (readReceived h (now (s .entry)) at) r ⌝ }
+// The PV and VD of t, the file from the byte on where DL ends.
+pub fn read_received(t: &[u8], h: Head) -> Sent
+    requires { ⌜ h .n ≤ 32 ⌝ }
+    ensures { λ r. ⌜ Sends h (now (t .entry)) r ⌝ }
 {
-    let st = read_records(s, at, h);
+    let k = reached(t, h);
+    let refusal = fault_at(t, h, k);
+    let byte = place(h.n, k);
     let n = h.n as usize;
-    let values = lower(n, &st.values);
-    let verdicts = lower(n, &st.verdicts);
-    let mut sent = Sent {
-        refusal: st.refusal,
-        byte: st.at,
+    let values = words_apart(t, 4, 5, n);
+    let verdicts = words_apart(t, 5 * n + 3, 4, n);
+    Sent {
+        refusal,
+        byte,
         values,
         verdicts,
-    };
-    if st.refusal != 0 {
-        return sent;
     }
-    sent.refusal = 11;
-    sent.byte = s.len();
-    if !complete(n, &st.values) {
-        return sent;
-    }
-    if !complete(n, &st.verdicts) {
-        return sent;
-    }
-    sent.refusal = 0;
-    sent
 }
 
 // The lists of a file whose SU and DL stand there whole: the matrix, the shares and h, each at the start of its array, and zeros behind it.

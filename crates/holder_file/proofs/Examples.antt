@@ -1,11 +1,10 @@
--- What is printed: the text of every contents in order, whichever order the records have; and document 01's file of 90 bytes with its three variants ("The holder program on
--- paper"), computed from the definitions, one line here for each line there.
+-- What is printed: the text of every contents in order; and document 01's file of 90 bytes with its three variants ("The holder program on paper"), computed from the
+-- definitions, one line here for each line there.
 -- prints, call-prints, call-leaves: the file of contents in order prints their text
--- same-text: the statement of specs/Text.antt
 use mathlib.Core.Path.{_≡_, refl, ap}
 use mathlib.Core.Bool.{not}
 use mathlib.Core.List.{List, [], _∷_, _++_}
-use Prim.Native.Nat.{ℕ, _+_}
+use Prim.Native.Nat.{ℕ}
 use lib.ListN.{length, drop}
 use borrow.Author.Tests.{eq-eqb, le-ltb}
 use Rattle.base.specs.Rules.{refusal, given}
@@ -17,9 +16,8 @@ use Rattle.scheme.specs.Dealing.{expected, differs, saidReject, isKept, judgeme
 use Rattle.file_text.specs.Lines.{width, dec, setupLine, dealingLine, verdictLine, outcomeLine, shareLine, shareLines, keptLines, refusedLine}
 use Rattle.file_reading.specs.Contents.{Contents, InOrder, fileBytes}
 use Rattle.file_reading.proofs.Sound.{reads-back}
-use Rattle.file_reading.proofs.Order.{same-read}
 use Rattle.file_reading.proofs.Examples.{worked, last-gone, rejected, contradicted, worked-read, last-gone-read, rejected-read, contradicted-read}
-use Rattle.holder_file.specs.Text.{textOf, lineOf, fileText, SameText}
+use Rattle.holder_file.specs.Text.{textOf, lineOf, fileText}
 use Rattle.holder_file.specs.Calls.{lentFile, holderFileCall, holderFileLeft}
 
 pub prints : (C : Contents) → InOrder C → fileText (fileBytes C) ≡ textOf C
@@ -40,9 +38,6 @@ pub call-leaves : (C : Contents) → InOrder C → (out : List ℕ) → length o
 call-leaves C ok out e =
     let A = reads-back C ok in
     rw (not-lent C ok out e, A .back) refl
-
-pub same-text : SameText
-same-text a rs qs e same y z = ap lineOf (same-read a rs qs e same y z)
 
 -- "setup 7 1 1 3", "dealing 1 holder 1", "verdict accept", "outcome kept", "share 0 2"
 pub worked-text : fileText worked

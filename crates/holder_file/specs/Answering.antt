@@ -2,13 +2,17 @@
 -- their end is said by crate file_reading.
 -- FilesMarked: a call's answer says that the call answered exactly where the refusal's number is 0
 -- FilesAnswering: a call on a file that is read to its end answers, with lent lengths as needed
+-- IsWritten, FilesWritten: a file on which a call answers has contents, and its bytes follow from them
 use mathlib.Core.Path.{_≡_}
 use mathlib.Core.List.{List}
 use Prim.Native.Nat.{ℕ, _≤_}
 use lib.ListN.{length}
+use Rattle.base.specs.Rules.{given}
 use Rattle.scheme.specs.Answering.{Marked, Answers}
+use Rattle.record_layouts.specs.Words.{Bytes}
 use Rattle.file_reading.specs.Contents.{Contents}
 use Rattle.file_reading.specs.File.{whole, readFile}
+use Rattle.file_reading.specs.Sound.{Written}
 use Rattle.holder_file.specs.Calls.{holderFileCall, fileContentsCall}
 
 -- whatever the call is given
@@ -20,3 +24,13 @@ pub record FilesMarked : Type 0 where
 pub record FilesAnswering : Type 0 where
   pub text : (s out : List ℕ) (C : Contents) → length s ≤ 4096 → length out ≡ 256 → readFile s ≡ whole C → Answers (holderFileCall s out)
   pub contents : (s out : List ℕ) (C : Contents) → length s ≤ 4096 → length out ≡ 18 → readFile s ≡ whole C → Answers (fileContentsCall s out)
+
+-- "an accepted file's bytes follow from its contents" (document 02, A2): one that prints no refusal
+pub record IsWritten (s : List ℕ) : Type 0 where
+  pub contents : Contents
+  pub read : readFile s ≡ whole contents
+  pub written : Written s contents
+
+pub record FilesWritten : Type 0 where
+  pub text : (s out values : List ℕ) → Bytes s → holderFileCall s out ≡ given values → IsWritten s
+  pub contents : (s out values : List ℕ) → Bytes s → fileContentsCall s out ≡ given values → IsWritten s

@@ -1,118 +1,68 @@
--- What was seen up to the file's end, or to a refusal, decides.
-use Prim.Native.Nat.{ℕ}
-use mathlib.Core.Path.{_≡_, refl, sym, subst, _∙_}
+-- The record reached decides, and what was sent stands at the places of the records.
+use Prim.Native.Nat.{_≤_}
+use mathlib.Core.Path.{ap, _∙_}
 use native.Mathlib.Omega.{arith}
-use lib.ListN.{length}
-use borrow.Author.Tests.{eq-eqb, ne-eqb, not-true, not-false}
-use Rattle.file_records.specs.declared.Seen.{Seen}
-use Rattle.file_records.specs.Received.{readReceived}
-use Rattle.file_records.specs.Inner.{Bounded, sentFault, sentByte, Sends}
-use Rattle.file_records.proofs.Reading.{received-bounded}
+use Rattle.file_records.specs.Received.{place, faultAt}
+use Rattle.file_records.proofs.Reading.{reached-le, values-are, verdicts-are}
 use borrow.Author.Needs.{needs}
 use Rattle.file_records.proofs.read_received.Statement.{statement}
 use Rattle.file_records.proofs.read_received.Tie as tie
 
--- the places: the start, and where the records are read and both lists lowered
-abbrev start : tie.After-read-records → tie.Start
-start c = c .before .before
+few : (c : tie.After-reached) → let x = c .before .before in (x .args .h .n ≤ 32) × (c .reached .result ≤ 64)
+few c =
+    let x = c .before .before in
+    (x .pre, omega (arith, x .pre, c .reached .ensures, reached-le (x .args .h) (x .args .t .now)))
 
-abbrev lowered-values : tie.After-lower2 → tie.After-lower
-lowered-values c = c .before .before .before .before
+reached-requires : tie.Need-reached-requires
+reached-requires c κs = search needs
 
-abbrev read : tie.After-lower → tie.After-read-records
-read c = c .before .before .before .before .before
+fault-at-requires : tie.Need-fault-at-requires
+fault-at-requires c κs = few c
 
-abbrev seen : tie.After-lower2 → Seen
-seen c = read (lowered-values c) .read-records .result
-
-bounded : (c : tie.After-read-records) → Bounded (start c .args .h) (c .read-records .result)
-bounded c =
-    let x = start c .args in
-    subst (Bounded (x .h)) (sym (c .read-records .ensures)) (received-bounded (x .h) (x .s .now) (x .at))
-
--- what is given, by its refusal and byte
-gives : (c : tie.After-lower2) (k byte : ℕ) → let x = start (read (lowered-values c)) .args in
-    k ≡ sentFault (x .h .n) (seen c) → byte ≡ sentByte (length (x .s .now)) (seen c)
-    → Sends (x .h .n) (length (x .s .now)) (readReceived (x .h) (x .s .now) (x .at))
-    (record { refusal = k; byte = byte; values = lowered-values c .lower .result; verdicts = c .lower2 .result })
-gives c k byte e f =
-    let x = start (read (lowered-values c)) .args in
-    subst (λ (st : Seen). Sends (x .h .n) (length (x .s .now)) st (record { refusal = k; byte = byte; values = lowered-values c .lower .result; verdicts = c .lower2 .result }))
-    (read (lowered-values c) .read-records .ensures)
-    (record {
-      number = e;
-      byte = f;
-      values-size = lowered-values c .lower .ensures .0;
-      verdicts-size = c .lower2 .ensures .0;
-      values = lowered-values c .lower .ensures .1;
-      verdicts = c .lower2 .ensures .1;
-    })
-
-read-records-requires : tie.Need-read-records-requires
-read-records-requires c κs = search needs
+place-requires : tie.Need-place-requires
+place-requires c κs = few (c .before)
 
 cast-n : tie.Need-cast-n
 cast-n c = search needs
 
-lower-requires : tie.Need-lower-requires
-lower-requires c κs =
-    let r = c .before .before .before .before in
-    (start r .pre .holders, omega (arith, start r .pre .holders, bounded r .values-size))
+words-apart-requires : tie.Need-words-apart-requires
+words-apart-requires c κs = search needs
 
-lower-requires-2 : tie.Need-lower-requires-2
-lower-requires-2 c κs =
-    let r = read (c .before .before .before) in
-    (start r .pre .holders, omega (arith, start r .pre .holders, bounded r .verdicts-size))
+mul-words-apart : tie.Need-mul-words-apart
+mul-words-apart c = search needs
+
+add-words-apart : tie.Need-add-words-apart
+add-words-apart c = search needs
+
+words-apart-requires-2 : tie.Need-words-apart-requires-2
+words-apart-requires-2 c κs = search needs
 
 returns : tie.Need-returns
-returns c = gives (c .before) _ _ (rw (ne-eqb _ 0 (c .if1 .taken)) refl) (rw (ne-eqb _ 0 (c .if1 .taken)) refl)
-
-complete-requires : tie.Need-complete-requires
-complete-requires c κs =
-    let r = read (lowered-values (c .before .before .before .before)) in
-    omega (arith, start r .pre .holders, bounded r .values-size)
-
-returns-2 : tie.Need-returns-2
-returns-2 c =
-    let whole = c .before .before .before .before .before in
-    let z = eq-eqb _ 0 (whole .if1 .left) in
-    let a = sym (c .before .complete .ensures) ∙ not-true _ (c .if2 .taken) in
-    gives (whole .before) _ _ (rw (z, a) refl) (rw z refl)
-
-complete-requires-2 : tie.Need-complete-requires-2
-complete-requires-2 c κs =
-    let r = read (lowered-values (c .before .before .before .before .before .before .before .before .before)) in
-    omega (arith, start r .pre .holders, bounded r .verdicts-size)
-
-returns-3 : tie.Need-returns-3
-returns-3 c =
-    let values = c .before .before .before .before .before in
-    let whole = values .before .before .before .before .before in
-    let z = eq-eqb _ 0 (whole .if1 .left) in
-    let a = sym (values .before .complete .ensures) ∙ not-false _ (values .if2 .left) in
-    let b = sym (c .before .complete2 .ensures) ∙ not-true _ (c .if3 .taken) in
-    gives (whole .before) _ _ (rw (z, a, b) refl) (rw z refl)
-
-returns-4 : tie.Need-returns-4
-returns-4 c =
-    let values = c .before .before .before .before .before in
-    let whole = values .before .before .before .before .before in
-    let z = eq-eqb _ 0 (whole .if1 .left) in
-    let a = sym (values .before .complete .ensures) ∙ not-false _ (values .if2 .left) in
-    let b = sym (c .before .complete2 .ensures) ∙ not-false _ (c .if3 .left) in
-    gives (whole .before) _ _ (rw (z, a, b) refl) (rw z refl)
+returns c =
+    let values = c .before in
+    let byte = values .before .before in
+    let fault = byte .before in
+    let last = fault .before in
+    let x = last .before .before .args in
+    record {
+      number = fault .fault-at .ensures ∙ ap (faultAt (x .h) (x .t .now)) (last .reached .ensures);
+      byte = byte .place .ensures ∙ ap (place (x .h .n)) (last .reached .ensures);
+      values-size = values .words-apart .ensures .0;
+      verdicts-size = c .words-apart2 .ensures .0;
+      values = values .words-apart .ensures .1 ∙ values-are (x .h .n) (x .t .now);
+      verdicts = c .words-apart2 .ensures .1 ∙ verdicts-are (x .h .n) (x .t .now);
+    }
 
 pub read-received-spec : {M : Type 1} → statement M
 read-received-spec =
     tie.close
     (tie.spec
-    read-records-requires
+    reached-requires
+    fault-at-requires
+    place-requires
     cast-n
-    lower-requires
-    lower-requires-2
-    returns
-    complete-requires
-    returns-2
-    complete-requires-2
-    returns-3
-    returns-4)
+    words-apart-requires
+    mul-words-apart
+    add-words-apart
+    words-apart-requires-2
+    returns)
