@@ -4,6 +4,7 @@
 use mathlib.Core.Path.{_≡_, refl}
 use mathlib.Core.List.{List, [], _∷_, _++_}
 use Prim.Native.Nat.{ℕ}
+use native.Mathlib.Omega.{arith}
 use Rattle.base.specs.Sum.{sum}
 use Rattle.base.specs.Search.{every, first, firstFrom}
 use Rattle.base.specs.Fill.{tab, tabFrom}
@@ -11,11 +12,14 @@ use Rattle.base.specs.Matrix.{allBelow}
 use Rattle.field.specs.Fields.{isField}
 use Rattle.field.specs.Dot.{dot}
 use Rattle.scheme.specs.Dealing.{expected, differs, saidReject, isKept, judgementOf, fateOf}
+use Rattle.scheme.proofs.Calls.{below-vec, vec-of}
 use Rattle.scheme.proofs.Cases.{ex}
 use Rattle.record_layouts.specs.Words.{bytes, wordsAt}
 use Rattle.file_records.specs.Received.{pairFault, verdictFault, markFault, recordFault, faultAt, reached}
 use Rattle.file_reading.specs.Contents.{Contents, fileBytes}
+use Rattle.file_reading.specs.Sound.{Written}
 use Rattle.file_reading.specs.File.{whole, refusedAt, setupFault, dealingFault, ofContents, ofReceived, ofDealing, readFile}
+use Rattle.file_reading.proofs.Sound.{follows}
 
 abbrev front : List ℕ
 front =
@@ -53,7 +57,7 @@ abbrev pub rejectedContents : Contents
 rejectedContents =
     record { setup = ex; dealing = 1; holder = 1; g = 2 ∷ 4 ∷ []; h = 4 ∷ 3 ∷ []; values = 3 ∷ 1 ∷ 0 ∷ []; verdicts = 1 ∷ 0 ∷ 1 ∷ [] }
 
--- the first is that of its contents
+-- the first is the file of its contents
 pub worked-file : fileBytes workedContents ≡ worked
 unfolding tab tabFrom bytes
 worked-file = refl
@@ -61,6 +65,11 @@ worked-file = refl
 pub worked-read : readFile worked ≡ whole workedContents
 unfolding sum every first firstFrom tab tabFrom allBelow isField dot expected differs saidReject isKept wordsAt pairFault verdictFault markFault recordFault faultAt reached judgementOf fateOf setupFault dealingFault ofContents ofReceived ofDealing readFile
 worked-read = refl
+
+-- so its bytes follow from its contents
+pub worked-written : Written worked workedContents
+unfolding allBelow every
+worked-written = follows .written worked workedContents (below-vec 256 90 worked (omega arith) (vec-of 256 90 worked (omega arith) refl refl)) worked-read
 
 -- "`refused 11 at 82`"
 pub last-gone-read : readFile last-gone ≡ refusedAt 11 82

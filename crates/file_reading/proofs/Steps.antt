@@ -27,13 +27,13 @@ use Rattle.scheme.proofs.Calls.{limits-pos, vec-of}
 use Rattle.scheme.proofs.Verdicts.{kept-means}
 use Rattle.record_layouts.specs.declared.DealingRecord.{DealingRecord}
 use Rattle.record_layouts.specs.Words.{wordAt, wordsAt}
-use Rattle.record_layouts.proofs.Words.{length-words, getD-words}
+use Rattle.record_layouts.proofs.Words.{length-words, getD-words, word-behind}
 use Rattle.record_layouts.specs.Records.{markSU, setupAt, setupSize, dealingSize, dealingAt, dealingG, dealingH, readSetupRules, standingRules, dealingLayout, paramsAt}
 use Rattle.record_layouts.proofs.Calls.{setup-read, dim-small, matrix-small}
 use Rattle.file_records.specs.declared.Sent.{Sent}
 use Rattle.file_records.specs.declared.Lists.{Lists}
 use Rattle.file_records.specs.Inner.{Sends, Whole, Holds}
-use Rattle.file_records.proofs.Reading.{all-pass, values-small, verdicts-small, word-behind}
+use Rattle.file_records.proofs.Reading.{all-pass, values-small, verdicts-small}
 use Rattle.file_reading.specs.declared.Told.{Told}
 use Rattle.file_reading.specs.Contents.{Contents, verdictOf, judgement, fate, keptShares, headOf}
 use Rattle.file_reading.specs.File.{FileRead, refusedAt, whole, setupFault, dealingFault, ofContents, orRefused, ofReceived, ofDealing, readFile, eight, paramsOf, told}
@@ -243,8 +243,6 @@ module _ (s : List ℕ) (F : Fair s) (r : Sent) (W : Sends (headOf (setupAt s) (
   all-read : orRefused (r .refusal) (from + r .byte) read ≡ readFile s
   unfolding ofReceived
   all-read =
-      let x = dealingAt (partOf s) in
-      let t = drop from s in
       rw (W .number, W .byte, W .values, W .verdicts) (file-next s (F .setup) S refl (F .dealing) refl refl refl)
 
   pub sent-refused : (r .refusal ≡ 0 → ⊥) → refusedAt (r .refusal) (from + r .byte) ≡ readFile s

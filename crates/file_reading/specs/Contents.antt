@@ -3,6 +3,7 @@
 -- verdictOf: the verdict that says a judgement
 -- judgement, fate, keptShares: those of the contents; the shares where the dealing is kept, and none where it is aborted
 -- InOrder: contents that break nothing
+-- numbers, headOf: the numbers of DL, and what PV and VD are held against
 -- fileBytes: the contents as a file
 use mathlib.Core.Path.{_≡_}
 use mathlib.Core.List.{List, [], _++_}
@@ -54,7 +55,6 @@ pub record InOrder (C : Contents) : Type 0 where
   pub heard : Vec 2 (C .setup .n) (C .verdicts)
   pub own : at (C .verdicts) (C .holder) ≡ verdictOf (judgement C)
 
--- its numbers of DL, and what its PV and VD are held against
 abbrev pub numbers : Contents → DealingRecord
 numbers C = record { dealing = C .dealing; holder = C .holder }
 

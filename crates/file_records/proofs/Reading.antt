@@ -6,7 +6,7 @@ use mathlib.Core.List.{List, _++_}
 use mathlib.Core.Path.{_≡_, refl, sym, ap, _∙_}
 use native.Mathlib.Omega.{arith}
 use lib.ListN.{length, take, drop, length-append, length-drop}
-use lib.Seq.{take-all, take-at, length-take-le, getD-take, getD-drop}
+use lib.Seq.{take-all, take-at, length-take-le, getD-take}
 use lib.Dec.{ltb, leb, eqb}
 use borrow.Author.Tests.{le-leb, lt-leb, lt-ltb, le-ltb, eq-eqb, ne-eqb, leb-true, leb-false, ltb-false, eqb-true, eqb-false, not-true, not-false}
 use Rattle.base.specs.Choice.{pick}
@@ -17,7 +17,7 @@ use Rattle.base.proofs.Rules.{clear, never}
 use Rattle.base.proofs.Search.{first-is, first-le}
 use Rattle.base.proofs.Fill.{length-filled, getD-filled, tab-is, tab-ext, tab-vec}
 use Rattle.record_layouts.specs.Words.{wordAt, wordsAt}
-use Rattle.record_layouts.proofs.Words.{length-words}
+use Rattle.record_layouts.proofs.Words.{length-words, word-behind}
 use Rattle.record_layouts.specs.Records.{markPV, markVD, markSU, markDL, pairSize, verdictSize, pairAt, verdictAt}
 use Rattle.file_records.specs.declared.Head.{Head}
 use Rattle.file_records.specs.Received.{place, pairRules, pairFault, verdictRules, verdictFault, markFault, recordFault, faultAt, reached, valuesAt, verdictsAt}
@@ -211,12 +211,6 @@ module _ (h : Head) (t : List ℕ) where
       go r (missing e q) = up r (omega (arith, e)) (λ j m. q j (omega (arith, e, m)))
 
 -- WHAT THE HOLDERS SENT
-pub word-behind : (s : List ℕ) (k i : ℕ) → wordAt (drop (2 * k) s) i ≡ wordAt s (k + i)
-word-behind s k i =
-    let e : 2 * k + 2 * i ≡ 2 * (k + i) = omega arith in
-    let f : 2 * k + (2 * i + 1) ≡ 2 * (k + i) + 1 = omega arith in
-    rw (getD-drop (2 * k) s (2 * i) 0, getD-drop (2 * k) s (2 * i + 1) 0, e, f) refl
-
 -- the beginning of an array that is filled from the front
 pub begins : (n : ℕ) (f : ℕ → ℕ) (l : List ℕ) → n ≤ length l → take n (filled f n l) ≡ tab n f
 begins n f l h =

@@ -3,13 +3,13 @@
 use mathlib.Core.Path.{_≡_, refl, sym, ap, _∙_}
 use mathlib.Core.Bool.{Bool, true, false, _&&_}
 use mathlib.Core.List.{List, [], _∷_, _++_, append-nil, append-assoc}
-use Prim.Native.Nat.{ℕ, zero, suc, _+_, _*_, _/_, _%_, _-_, _<_, _≤_}
+use Prim.Native.Nat.{ℕ, zero, suc, _+_, _*_, _/_, _%_, _<_, _≤_}
 use native.Mathlib.Nat.{add-zero, le-of-suc-le-suc, not-suc-le-zero}
 use native.Mathlib.Numerals.{add-one}
 use native.Mathlib.Omega.{arith}
 use lib.Dec.{eqb, ltb}
 use lib.ListN.{length, getD, set, take, drop, length-append, List·getD-append, drop-of-length-le}
-use lib.Seq.{sets, sets-eq, ext-getD, getD-append-add, drop-cons}
+use lib.Seq.{sets, sets-eq, ext-getD, getD-append-add, getD-drop, drop-cons}
 use Rattle.base.specs.Search.{every}
 use Rattle.base.specs.Matrix.{allBelow}
 use Rattle.base.proofs.Fill.{length-tab, getD-tab}
@@ -47,6 +47,13 @@ length-words s i k = length-tab k (λ j. wordAt s (i + j))
 pub getD-words : (s : List ℕ) (i k j : ℕ) → j < k → getD (wordsAt s i k) j 0 ≡ wordAt s (i + j)
 unfolding wordsAt
 getD-words s i k j h = getD-tab k (λ j. wordAt s (i + j)) 0 j h
+
+-- a word of the part behind k words
+pub word-behind : (s : List ℕ) (k i : ℕ) → wordAt (drop (2 * k) s) i ≡ wordAt s (k + i)
+word-behind s k i =
+    let e : 2 * k + 2 * i ≡ 2 * (k + i) = omega arith in
+    let f : 2 * k + (2 * i + 1) ≡ 2 * (k + i) + 1 = omega arith in
+    rw (getD-drop (2 * k) s (2 * i) 0, getD-drop (2 * k) s (2 * i + 1) 0, e, f) refl
 
 -- a run of words in a longer one
 pub words-of : (a b c rest : List ℕ) (i k : ℕ) → length a ≡ i → length b ≡ k → wordsAt (bytes (a ++ (b ++ c)) ++ rest) i k ≡ b
