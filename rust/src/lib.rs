@@ -746,8 +746,9 @@ fn file_answer(number: u16, byte: usize) -> Result<(), FileRefusal> {
     answer(number, 0).map_err(|refusal| FileRefusal { refusal, byte: (byte != NO_BYTE).then_some(byte) })
 }
 
-/// Reads a holder's file of at most [`MOST_FILE_BYTES`] bytes: an SU, the holder's DL, its n PV and everyone's n VD. The first faulty record decides.
-/// Refusals 1 to 5, 8 to 13.
+/// Reads a holder's file of at most [`MOST_FILE_BYTES`] bytes: an SU, the holder's DL, its n PV by rising sender and everyone's n VD by rising holder. The
+/// first faulty record decides.
+/// Refusals 1 to 5, 8 to 13, 17.
 ///
 /// ```
 /// use mavdrusek::{read_file, Refusal};
