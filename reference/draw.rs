@@ -256,7 +256,7 @@ impl<'a> Draw<'a> {
         c
     }
 
-    /// A holder's file as the rules have it, now and then with a changed value or verdict, or with its PV and VD in another order.
+    /// A holder's file as the rules have it, now and then with a changed value or verdict, or with a PV or VD out of its place.
     fn file(&mut self) -> Vec<u8> {
         let (s, d, n) = (self.s, self.s.d(), self.s.n as usize);
         let (_, _, gs, hs) = self.dealing();
