@@ -27,8 +27,8 @@ use Rattle.record_layouts.specs.Records.{markSU, pairAt, verdictAt, setupAt, se
 use Rattle.file_records.specs.declared.Head.{Head}
 use Rattle.file_records.specs.Received.{place, pairRules, pairFault, verdictRules, verdictFault, recordFault, faultAt, reached, valuesAt, verdictsAt}
 use Rattle.file_records.proofs.Reading.{record-by}
-use Rattle.file_reading.specs.Contents.{Contents, judgement, verdictOf, headOf}
-use Rattle.file_reading.specs.File.{FileRead, refusedAt, whole, numberOf, setupFault, dealingFault, contentsOf, ofContents, orRefused, ofReceived, ofDealing, readFile}
+use Rattle.file_reading.specs.Contents.{Contents, judgement, verdictOf}
+use Rattle.file_reading.specs.File.{FileRead, refusedAt, whole, numberOf, setupFault, dealingFault, headOf, contentsOf, ofContents, orRefused, ofReceived, ofDealing, readFile}
 use Rattle.holder_file.specs.Text.{textOf}
 use Rattle.holder_file.specs.Calls.{fileAnswer, lentFile}
 use Rattle.demand.specs.Retired.{retired, NotGiven, NeverGiven}

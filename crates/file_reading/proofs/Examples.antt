@@ -1,6 +1,7 @@
 -- Document 01's file of 90 bytes and its three variants ("The holder program on paper"), and files with a record out of its order, read by the definitions.
 -- front, pv, vd: the bytes of SU and DL, of a PV and of a VD
 -- worked, last-gone, rejected, contradicted: document 01's four files; workedContents, rejectedContents: what the first and the third hold
+-- numbered, numberedContents: a file whose dealing number and holder differ, and what it holds
 use mathlib.Core.Path.{_≡_, refl}
 use mathlib.Core.List.{List, [], _∷_, _++_}
 use Prim.Native.Nat.{ℕ}
@@ -62,11 +63,35 @@ pub worked-file : fileBytes workedContents ≡ worked
 unfolding tab tabFrom bytes
 worked-file = refl
 
+-- the same under dealing number 513, which is no holder's number and has two bytes that differ: 01 02
+abbrev pub numbered : List ℕ
+numbered =
+    83 ∷ 85 ∷ 7 ∷ 0 ∷ 1 ∷ 0 ∷ 1 ∷ 0 ∷ 3 ∷ 0 ∷ 6 ∷ 0 ∷ 2 ∷ 0 ∷ 5 ∷ 0 ∷ 3 ∷ 0 ∷ 4 ∷ 0 ∷ 4 ∷ 0
+    ∷ 68 ∷ 76 ∷ 1 ∷ 2 ∷ 1 ∷ 0 ∷ 2 ∷ 0 ∷ 4 ∷ 0 ∷ 4 ∷ 0 ∷ 3 ∷ 0
+    ∷ 80 ∷ 86 ∷ 1 ∷ 2 ∷ 0 ∷ 0 ∷ 1 ∷ 0 ∷ 2 ∷ 0
+    ∷ 80 ∷ 86 ∷ 1 ∷ 2 ∷ 1 ∷ 0 ∷ 1 ∷ 0 ∷ 1 ∷ 0
+    ∷ 80 ∷ 86 ∷ 1 ∷ 2 ∷ 2 ∷ 0 ∷ 1 ∷ 0 ∷ 0 ∷ 0
+    ∷ 86 ∷ 68 ∷ 1 ∷ 2 ∷ 0 ∷ 0 ∷ 1 ∷ 0
+    ∷ 86 ∷ 68 ∷ 1 ∷ 2 ∷ 1 ∷ 0 ∷ 1 ∷ 0
+    ∷ 86 ∷ 68 ∷ 1 ∷ 2 ∷ 2 ∷ 0 ∷ 1 ∷ 0 ∷ []
+
+abbrev pub numberedContents : Contents
+numberedContents =
+    record { setup = ex; dealing = 513; holder = 1; g = 2 ∷ 4 ∷ []; h = 4 ∷ 3 ∷ []; values = 2 ∷ 1 ∷ 0 ∷ []; verdicts = 1 ∷ 1 ∷ 1 ∷ [] }
+
+pub numbered-file : fileBytes numberedContents ≡ numbered
+unfolding tab tabFrom bytes
+numbered-file = refl
+
 pub worked-read : readFile worked ≡ whole workedContents
 unfolding sum every first firstFrom tab tabFrom allBelow isField dot expected differs saidReject isKept wordsAt pairFault verdictFault markFault recordFault faultAt reached judgementOf fateOf setupFault dealingFault ofContents ofReceived ofDealing readFile
 worked-read = refl
 
--- so its bytes follow from its contents
+pub numbered-read : readFile numbered ≡ whole numberedContents
+unfolding sum every first firstFrom tab tabFrom allBelow isField dot expected differs saidReject isKept wordsAt pairFault verdictFault markFault recordFault faultAt reached judgementOf fateOf setupFault dealingFault ofContents ofReceived ofDealing readFile
+numbered-read = refl
+
+-- the bytes of the first follow from its contents
 pub worked-written : Written worked workedContents
 unfolding allBelow every
 worked-written = follows .written worked workedContents (below-vec 256 90 worked (omega arith) (vec-of 256 90 worked (omega arith) refl refl)) worked-read

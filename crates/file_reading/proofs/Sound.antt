@@ -26,7 +26,7 @@ use Rattle.record_layouts.proofs.ReadBack.{setup-at, setup-fair, dealing-fair}
 use Rattle.file_records.specs.declared.Head.{Head}
 use Rattle.file_records.specs.Received.{faultAt, reached, place, valuesAt, verdictsAt, joined, sent, said, pairs, verdicts}
 use Rattle.file_records.proofs.Records.{size, not-refused, values-back, verdicts-back}
-use Rattle.file_reading.specs.Contents.{Contents, InOrder, numbers, headOf, fileBytes}
+use Rattle.file_reading.specs.Contents.{Contents, InOrder, numbers, head, fileBytes}
 use Rattle.file_reading.specs.File.{FileRead, whole, setupFault, dealingFault, contentsOf, ofContents, orRefused, ofReceived, readFile}
 use Rattle.file_reading.specs.Sound.{Written, ReadsBack, Follows}
 use Rattle.file_reading.proofs.Steps.{same-contents, setup-own, isSecond, deal-own, of-whole, goes-on, file-next, field-le}
@@ -77,7 +77,7 @@ module _ (C : Contents) (ok : InOrder C) where
   x = numbers C
 
   abbrev h : Head
-  h = headOf (C .setup) (numbers C)
+  h = head C
 
   abbrev su : List ℕ
   su = bytes (setupWords (C .setup))
@@ -86,7 +86,7 @@ module _ (C : Contents) (ok : InOrder C) where
   dl = bytes (dealingWords (numbers C) (C .g) (C .h))
 
   abbrev rest : List ℕ
-  rest = let h = headOf (C .setup) (numbers C) in pairs h (C .values) ++ verdicts h (C .verdicts)
+  rest = pairs (head C) (C .values) ++ verdicts (head C) (C .verdicts)
 
   su-size : length su ≡ setupSize S
   su-size = omega (arith, length-bytes (setupWords S), ok .setup .matrix .size)

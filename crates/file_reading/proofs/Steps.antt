@@ -35,8 +35,8 @@ use Rattle.file_records.specs.declared.Lists.{Lists}
 use Rattle.file_records.specs.Inner.{Sends, Whole, Holds}
 use Rattle.file_records.proofs.Reading.{all-pass, values-small, verdicts-small}
 use Rattle.file_reading.specs.declared.Told.{Told}
-use Rattle.file_reading.specs.Contents.{Contents, verdictOf, judgement, fate, keptShares, headOf}
-use Rattle.file_reading.specs.File.{FileRead, refusedAt, whole, setupFault, dealingFault, ofContents, orRefused, ofReceived, ofDealing, readFile, eight, paramsOf, told}
+use Rattle.file_reading.specs.Contents.{Contents, verdictOf, judgement, fate, keptShares}
+use Rattle.file_reading.specs.File.{FileRead, refusedAt, whole, setupFault, dealingFault, headOf, ofContents, orRefused, ofReceived, ofDealing, readFile, eight, paramsOf, told}
 use Rattle.file_reading.specs.Inner.{partOf, Fair, contentsIn, Tells}
 
 -- A REFUSAL IS NO CONTENTS

@@ -31,8 +31,8 @@ use Rattle.file_records.specs.declared.Head.{Head}
 use Rattle.file_records.specs.Received.{place, faultAt, reached, valuesAt, verdictsAt}
 use Rattle.file_records.proofs.Reading.{nothing-behind, eleven-ends, all-pass, reached-inside, values-small, verdicts-small}
 use Rattle.file_records.proofs.Records.{exact}
-use Rattle.file_reading.specs.Contents.{Contents, InOrder, judgement, verdictOf, headOf, fileBytes}
-use Rattle.file_reading.specs.File.{FileRead, refusedAt, whole, numberOf, byteOf, setupFault, dealingFault, contentsOf, ofContents, orRefused, ofReceived, ofDealing, readFile}
+use Rattle.file_reading.specs.Contents.{Contents, InOrder, judgement, verdictOf, fileBytes}
+use Rattle.file_reading.specs.File.{FileRead, refusedAt, whole, numberOf, byteOf, setupFault, dealingFault, headOf, contentsOf, ofContents, orRefused, ofReceived, ofDealing, readFile}
 use Rattle.file_reading.specs.Sound.{Missing}
 use Rattle.file_reading.proofs.Steps.{not-whole, same-contents, isSecond, setup-clear, deal-clear, dealing-read, both-fit}
 

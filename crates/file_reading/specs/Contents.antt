@@ -3,7 +3,7 @@
 -- verdictOf: the verdict that says a judgement
 -- judgement, fate, keptShares: those of the contents; the shares where the dealing is kept, and none where it is aborted
 -- InOrder: contents that break nothing
--- numbers, headOf: the numbers of DL, and what PV and VD are held against
+-- numbers, head: what its DL says beside g and h, and what its PV and VD say beside holder, value and verdict
 -- fileBytes: the contents as a file
 use mathlib.Core.Path.{_≡_}
 use mathlib.Core.List.{List, [], _++_}
@@ -58,11 +58,10 @@ pub record InOrder (C : Contents) : Type 0 where
 abbrev pub numbers : Contents → DealingRecord
 numbers C = record { dealing = C .dealing; holder = C .holder }
 
-abbrev pub headOf : Setup → DealingRecord → Head
-headOf S x = record { p = S .p; n = S .n; dealing = x .dealing; holder = x .holder }
+abbrev pub head : Contents → Head
+head C = record { p = C .setup .p; n = C .setup .n; dealing = C .dealing; holder = C .holder }
 
 -- "A holder's file is SU, then that holder's DL"; "After DL the PV records now come by rising sender, then the VD records by rising holder"
 abbrev pub fileBytes : Contents → List ℕ
 fileBytes C =
-    let h = headOf (C .setup) (numbers C) in
-    bytes (setupWords (C .setup)) ++ bytes (dealingWords (numbers C) (C .g) (C .h)) ++ (pairs h (C .values) ++ verdicts h (C .verdicts))
+    bytes (setupWords (C .setup)) ++ bytes (dealingWords (numbers C) (C .g) (C .h)) ++ (pairs (head C) (C .values) ++ verdicts (head C) (C .verdicts))

@@ -1,6 +1,7 @@
 -- A holder's file read to its end (document 01, "In a file the first faulty record decides"; document 02, A2).
 -- FileRead: a refusal with the byte where the faulty record starts, or the contents
 -- setupFault, dealingFault: the refusal of the first record, and of the second
+-- headOf: what PV and VD are held against, from SU and DL as they were read
 -- contentsOf: the contents from what stands in SU and DL and what was received
 -- ofContents, ofReceived, ofDealing, readFile: what is read from the contents, from the file's PV and VD on, from its DL and its start on
 -- orRefused: a refusal, or what follows
@@ -19,9 +20,10 @@ use Rattle.scheme.specs.Setup.{Setup}
 use Rattle.record_layouts.specs.Words.{wordAt}
 use Rattle.record_layouts.specs.declared.DealingRecord.{DealingRecord}
 use Rattle.record_layouts.specs.Records.{markSU, setupAt, setupSize, dealingSize, dealingAt, dealingG, dealingH, readSetupRules, standingRules, dealingLayout}
+use Rattle.file_records.specs.declared.Head.{Head}
 use Rattle.file_records.specs.Received.{place, faultAt, reached, valuesAt, verdictsAt}
 use Rattle.file_reading.specs.declared.Told.{Told}
-use Rattle.file_reading.specs.Contents.{Contents, judgement, verdictOf, fate, keptShares, headOf}
+use Rattle.file_reading.specs.Contents.{Contents, judgement, verdictOf, fate, keptShares}
 
 pub data FileRead : Type 0 where
   refusedAt : (number byte : ℕ) → FileRead
@@ -37,6 +39,9 @@ unfoldable pub dealingFault : Setup → List ℕ → ℕ
 dealingFault S t =
     pick (eqb (length t) 0) 11
     (pick (not (ltb (length t) 2) && eqb (wordAt t 0) markSU) 10 (refusal (standingRules dealingLayout S t)))
+
+abbrev pub headOf : Setup → DealingRecord → Head
+headOf S x = record { p = S .p; n = S .n; dealing = x .dealing; holder = x .holder }
 
 abbrev pub contentsOf : Setup → DealingRecord → (g h values verdicts : List ℕ) → Contents
 contentsOf S x g h values verdicts =

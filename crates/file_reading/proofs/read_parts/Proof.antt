@@ -10,8 +10,7 @@ use Rattle.record_layouts.specs.Records.{setupAt, setupSize, dealingSize, deali
 use Rattle.file_records.specs.declared.Head.{Head}
 use Rattle.file_records.specs.Inner.{Sends}
 use Rattle.file_records.proofs.Reading.{part-is, reached-inside}
-use Rattle.file_reading.specs.Contents.{headOf}
-use Rattle.file_reading.specs.File.{refusedAt}
+use Rattle.file_reading.specs.File.{refusedAt, headOf}
 use Rattle.file_reading.specs.Inner.{FrontIn, partOf}
 use Rattle.file_reading.proofs.Steps.{setup-fair, front-fits, sent-refused, sent-next}
 use borrow.Author.Needs.{needs}
