@@ -37,6 +37,8 @@ fn main() {
             calls::calls(&mut t, &w);
             records::records(&mut t, &w);
         }
+        println!("board keys (p 257, l 4, e 3, n 16)");
+        calls::keys(&mut t);
     }
     if wanted("peers") {
         peers::peers(&mut targets);

@@ -222,3 +222,66 @@ pub fn calls(t: &mut Table, w: &World) {
         }
     }
 }
+
+/// Board keys. Their setup is fixed, so that the reference makes its matrix in each call; ours has it built in.
+pub fn keys(t: &mut Table) {
+    let w = &board();
+    let keys: Vec<Vec<u8>> = (0..TURN).map(|k| w.key(k)).collect();
+    let (mut a, mut b) = ([0; 112], [0; 112]);
+    let (mut c, mut e) = ([0; 112], [0; 112]);
+    t.line(
+        "deal_key",
+        |k, look| {
+            let r = ours::deal_key(&keys[k], &w.deals[k].random, &mut a, &mut c);
+            give(look, || digest(r, &[a, c].concat()), r)
+        },
+        |k, look| {
+            let r = reference::deal_key(&keys[k], &w.deals[k].random, &mut b, &mut e);
+            give(look, || of(&r, &[b, e].concat()), r.number)
+        },
+    );
+    let too_high: Vec<Vec<u16>> = w.deals.iter().map(|x| [&x.random[..32], &[257]].concat()).collect();
+    t.line(
+        "deal_key, refused 4",
+        |k, _| ours::deal_key(&keys[k], &too_high[k], &mut a, &mut c) as u64,
+        |k, _| reference::deal_key(&keys[k], &too_high[k], &mut b, &mut e).number as u64,
+    );
+
+    // The same keys with a 256 at one position, which opens to no key.
+    let mut no_keys = board();
+    for (k, deal) in no_keys.deals.iter_mut().enumerate() {
+        deal.secrets[k] = 256;
+        reference::deal_all(w.s, &deal.m, &deal.secrets, &deal.random, &mut deal.gs, &mut deal.hs);
+    }
+    for count in [6, 7, 8, 16] {
+        let sets = if count == 16 { vec![0xffff; TURN] } else { w.sets(count, false) };
+        let shares: Vec<Vec<u16>> = (0..TURN).map(|k| w.key_shares(k, sets[k])).collect();
+        let with_256: Vec<Vec<u16>> = (0..TURN).map(|k| no_keys.key_shares(k, sets[k])).collect();
+        let mut changed = shares.clone();
+        for (k, x) in changed.iter_mut().enumerate() {
+            let at = k * 5 % x.len();
+            x[at] = (x[at] + 1) % 257;
+        }
+        let (mut key, mut other, mut position) = ([0; 16], [0; 16], 0);
+        let mut line = |case: &str, handed: &[Vec<u16>]| {
+            t.line(
+                &format!("open_key, {count} members{case}"),
+                |k, look| {
+                    let r = ours::open_key(sets[k], &handed[k], &mut key, &mut position);
+                    give(look, || digest(r, &if r == 0 { wide(&key) } else { vec![] }), r)
+                },
+                |k, look| {
+                    let r = reference::open_key(sets[k], &handed[k], &mut other);
+                    give(look, || digest(r.number, &if r.number == 0 { wide(&other) } else { vec![] }), r.number)
+                },
+            );
+        };
+        line("", &shares);
+        if count > 7 {
+            line(", one share changed", &changed);
+        }
+        if count > 6 {
+            line(", a 256", &with_256);
+        }
+    }
+}

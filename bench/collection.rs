@@ -11,13 +11,22 @@ pub fn collection() {
     let w = &board();
     let (s, m) = (w.s, w.m(0));
     let mut r = Random(257);
-    let keys: Vec<(Vec<u16>, Vec<u16>)> = (0..KEYS).map(|_| (r.elements(256, 16), r.elements(257, 33))).collect();
+    let key = |r: &mut Random| r.elements(256, 16).iter().map(|&x| x as u8).collect();
+    let keys: Vec<(Vec<u8>, Vec<u16>)> = (0..KEYS).map(|_| (key(&mut r), r.elements(257, 33))).collect();
     let set = 0b1000_0100_1011_0101;
+    // What the seven hand in: their shares of column 0 by rising holder, then those of columns 1, 2 and 3.
+    let handed = |shares: &[[u16; 4]; 16]| {
+        let mut all = [0; 28];
+        for (k, i) in members(set).enumerate() {
+            (0..4).for_each(|b| all[7 * b + k] = shares[i][b]);
+        }
+        all
+    };
 
     let (mut gs, mut hs) = ([0; 112], [0; 112]);
-    let mut ours = |chunk: &[(Vec<u16>, Vec<u16>)]| {
-        for (secrets, random) in chunk {
-            assert_eq!(ours::deal_all(s, m, secrets, random, &mut gs, &mut hs), 0);
+    let mut ours = |chunk: &[(Vec<u8>, Vec<u16>)]| {
+        for (key, random) in chunk {
+            assert_eq!(ours::deal_key(key, random, &mut gs, &mut hs), 0);
             let mut verdicts = [0; 16];
             for i in 0..16 {
                 let mut values = [0; 16];
@@ -32,20 +41,15 @@ pub fn collection() {
                 ours::outcome(s, &gs[i * 7..][..7], &verdicts, &mut shares[i], &mut kept, &mut 0);
                 assert_eq!(kept, 1);
             }
-            for b in 0..4 {
-                let (mut handed, mut back) = ([0; 7], [0; 4]);
-                for (x, i) in handed.iter_mut().zip(members(set)) {
-                    *x = shares[i][b];
-                }
-                assert_eq!(ours::open(s, m, set, &handed, &mut back, &mut 0), 0);
-                assert_eq!(back, secrets[4 * b..][..4]);
-            }
+            let mut back = [0; 16];
+            assert_eq!(ours::open_key(set, &handed(&shares), &mut back, &mut 0), 0);
+            assert_eq!(back, key[..]);
         }
     };
     let (mut ref_gs, mut ref_hs) = ([0; 112], [0; 112]);
-    let mut theirs = |chunk: &[(Vec<u16>, Vec<u16>)]| {
-        for (secrets, random) in chunk {
-            assert_eq!(reference::deal_all(s, m, secrets, random, &mut ref_gs, &mut ref_hs).number, 0);
+    let mut theirs = |chunk: &[(Vec<u8>, Vec<u16>)]| {
+        for (key, random) in chunk {
+            assert_eq!(reference::deal_key(key, random, &mut ref_gs, &mut ref_hs).number, 0);
             let mut verdicts = [0; 16];
             for i in 0..16 {
                 let mut values = [0; 16];
@@ -58,14 +62,9 @@ pub fn collection() {
             for i in 0..16 {
                 assert_eq!(reference::outcome(s, &ref_gs[i * 7..][..7], &verdicts, &mut shares[i]).values[0], 1);
             }
-            for b in 0..4 {
-                let (mut handed, mut back) = ([0; 7], [0; 4]);
-                for (x, i) in handed.iter_mut().zip(members(set)) {
-                    *x = shares[i][b];
-                }
-                assert_eq!(reference::open(s, m, set, &handed, &mut back).number, 0);
-                assert_eq!(back, secrets[4 * b..][..4]);
-            }
+            let mut back = [0; 16];
+            assert_eq!(reference::open_key(set, &handed(&shares), &mut back).number, 0);
+            assert_eq!(back, key[..]);
         }
     };
     let mut times = [vec![], vec![]];
@@ -83,7 +82,7 @@ pub fn collection() {
     }
     let [a, b] = times.map(|x| median(x) * (KEYS / CHUNK) as f64);
     println!();
-    println!("the collection: {KEYS} keys dealt, values exchanged and judged by all 16, kept, four columns opened by 7");
+    println!("the collection: {KEYS} keys dealt, values exchanged and judged by all 16, kept, opened by 7");
     println!("{:40} {a:8.3} s {b:8.3} s {:7.3}", "collection", a / b);
 }
 

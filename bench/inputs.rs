@@ -105,6 +105,14 @@ impl World {
     pub fn shares(&self, k: usize, set: u32, b: usize) -> Vec<u16> {
         members(set).map(|i| self.g(k, i)[b]).collect()
     }
+    /// The key of dealing k, where its secrets are bytes.
+    pub fn key(&self, k: usize) -> Vec<u8> {
+        self.deals[k].secrets.iter().map(|&x| x as u8).collect()
+    }
+    /// Shares of all four columns of a key, by column and then by rising holder.
+    pub fn key_shares(&self, k: usize, set: u32) -> Vec<u16> {
+        (0..4).flat_map(|b| self.shares(k, set, b)).collect()
+    }
     /// Sets of so many members, one for each input; if asked, such that determine the secrets.
     pub fn sets(&self, members: usize, determining: bool) -> Vec<u32> {
         let mut r = Random(members as u64);

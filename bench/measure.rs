@@ -170,7 +170,13 @@ impl<'a> Race<'a> {
         }
         println!("{text}");
     }
+    /// Ours to a peer's.
     pub fn ratio(&self, name: &str) -> Option<f64> {
-        self.names.iter().position(|&x| x == name).map(|k| self.times[0] / self.times[k])
+        self.between("ours", name)
+    }
+    /// One contender's to another's.
+    pub fn between(&self, one: &str, other: &str) -> Option<f64> {
+        let time = |name: &str| self.names.iter().position(|&x| x == name).map(|k| self.times[k]);
+        Some(time(one)? / time(other)?)
     }
 }

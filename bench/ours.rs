@@ -51,6 +51,14 @@ pub fn open(s: Params, m: &[u16], set: u32, shares: &[u16], secrets: &mut [u16],
     unsafe { mavdrusek_open(s.p, s.l, s.e, s.n, m.as_ptr(), m.len(), set, shares.as_ptr(), shares.len(), secrets.as_mut_ptr(),
                             secrets.len(), position) }
 }
+#[rustfmt::skip]
+pub fn deal_key(key: &[u8], random: &[u16], gs: &mut [u16], hs: &mut [u16]) -> u16 {
+    unsafe { mavdrusek_deal_key(key.as_ptr(), key.len(), random.as_ptr(), random.len(), gs.as_mut_ptr(), gs.len(), hs.as_mut_ptr(),
+                                hs.len()) }
+}
+pub fn open_key(set: u32, shares: &[u16], key: &mut [u8], position: &mut u16) -> u16 {
+    unsafe { mavdrusek_open_key(set, shares.as_ptr(), shares.len(), key.as_mut_ptr(), key.len(), position) }
+}
 pub fn write_setup(s: Params, m: &[u16], out: &mut [u8]) -> u16 {
     unsafe { mavdrusek_write_setup(s.p, s.l, s.e, s.n, m.as_ptr(), m.len(), out.as_mut_ptr(), out.len()) }
 }

@@ -20,7 +20,7 @@ unsafe extern "C" {
 pub fn peers(targets: &mut Vec<Target>) {
     let w = &board();
     let (s, m) = (w.s, w.m(0));
-    let bytes: Vec<Vec<u8>> = w.deals.iter().map(|x| x.secrets.iter().map(|&v| v as u8).collect()).collect();
+    let bytes: Vec<Vec<u8>> = (0..TURN).map(|k| w.key(k)).collect();
     let (gfshare, flint) = unsafe { (gfshare_here() == 1, flint_here() == 1) };
 
     println!();
@@ -34,16 +34,18 @@ pub fn peers(targets: &mut Vec<Target>) {
     unsafe { gfshare_begin(pool.as_ptr(), pool.len()) };
     unsafe { flint_begin(m.as_ptr()) };
 
-    // Dealing: all parts.
+    // Dealing: all parts. By the call for board keys, and by the one for any setup.
     let (mut gs, mut hs) = ([0; 112], [0; 112]);
-    let mut race = Race::new(move |k, _| {
+    let keys = &bytes;
+    let mut race = Race::new(move |k, _| ours::deal_key(&keys[k], &w.deals[k].random, &mut gs, &mut hs) as u64);
+    race.with("deal to all", move |k, _| {
         let x = &w.deals[k];
         ours::deal_all(s, m, &x.secrets, &x.random, &mut gs, &mut hs) as u64
     });
     if gfshare {
-        let (bytes, mut shares) = (&bytes, [0u8; 256]);
+        let mut shares = [0u8; 256];
         race.with("libgfshare", move |k, _| {
-            unsafe { gfshare_split(bytes[k].as_ptr(), shares.as_mut_ptr()) };
+            unsafe { gfshare_split(keys[k].as_ptr(), shares.as_mut_ptr()) };
             shares[0] as u64
         });
     }
@@ -58,10 +60,11 @@ pub fn peers(targets: &mut Vec<Target>) {
         race.with("FLINT", move |k, _| deal(k).0[0] as u64);
     }
     race.run("dealing a key");
-    targets.push(target("dealing a key: at most half of libgfshare's split", race.ratio("libgfshare"), 0.5));
-    targets.push(target("dealing a key: at most half of FLINT's two products", race.ratio("FLINT"), 0.5));
+    targets.push(target("dealing a key: at most 0.25 of libgfshare's split", race.ratio("libgfshare"), 0.25));
+    targets.push(target("the same by deal to all: at most half of libgfshare's split", race.between("deal to all", "libgfshare"), 0.5));
+    targets.push(target("the same by deal to all: at most half of FLINT's two products", race.between("deal to all", "FLINT"), 0.5));
 
-    // Opening, as four single openings.
+    // Opening: by the call for board keys, and as four single openings.
     for count in [7, 16] {
         let sets = if count == 7 { w.sets(7, true) } else { vec![0xffff; TURN] };
         let columns: Vec<Vec<Vec<u16>>> = (0..TURN).map(|k| (0..4).map(|b| w.shares(k, sets[k], b)).collect()).collect();
@@ -76,7 +79,9 @@ pub fn peers(targets: &mut Vec<Target>) {
             })
             .collect();
 
-        let mut key = [0; 16];
+        let shares: Vec<Vec<u16>> = (0..TURN).map(|k| w.key_shares(k, sets[k])).collect();
+        let (mut back, mut key) = ([0u8; 16], [0; 16]);
+        let open_key = |k: usize, key: &mut [u8; 16]| ours::open_key(sets[k], &shares[k], key, &mut 0);
         let open = |k: usize, key: &mut [u16; 16]| {
             let mut refused = 0;
             for (column, secrets) in columns[k].iter().zip(key.chunks_mut(4)) {
@@ -85,11 +90,12 @@ pub fn peers(targets: &mut Vec<Target>) {
             refused
         };
         for k in 0..TURN {
+            assert_eq!((open_key(k, &mut back), &back[..]), (0, &bytes[k][..]), "the key does not come back");
             assert_eq!((open(k, &mut key), &key[..]), (0, &w.deals[k].secrets[..]), "the key does not come back");
         }
-        let mut race = Race::new(move |k, _| open(k, &mut key) as u64);
+        let mut race = Race::new(move |k, _| open_key(k, &mut back) as u64);
+        race.with("four openings", move |k, _| open(k, &mut key) as u64);
         if gfshare {
-            let mut back = [0u8; 16];
             let combine = |k: usize, back: &mut [u8; 16]| unsafe { gfshare_combine(count, split[k].as_ptr(), back.as_mut_ptr()) };
             combine(3, &mut back);
             assert_eq!(&back[..], &bytes[3][..], "libgfshare does not give the key back");
@@ -110,17 +116,22 @@ pub fn peers(targets: &mut Vec<Target>) {
             assert_eq!((reduce(3, &mut key), &key[..]), (1, &w.deals[3].secrets[..]), "FLINT does not give the key back");
             race.with("FLINT's rref", move |k, _| reduce(k, &mut key) as u64);
         }
-        race.run(&format!("opening a key by {count}, as four openings"));
+        race.run(&format!("opening a key by {count}"));
+        if count == 7 {
+            targets.push(target("opening a key by 7: at most 0.8 of libgfshare's unverified combine", race.ratio("libgfshare"), 0.8));
+        } else {
+            targets.push(target("opening a key by 16, every share tested: at most 0.15 of FLINT's solve", race.ratio("FLINT"), 0.15));
+        }
         targets.push(target(
-            &format!("opening a key by {count}: no slower than FLINT's one solve with four right sides"),
-            race.ratio("FLINT"),
+            &format!("the same by {count} as four openings: no slower than FLINT's one solve with four right sides"),
+            race.between("four openings", "FLINT"),
             1.0,
         ));
         if let Some(x) = race.ratio("FLINT's rref") {
             println!("recorded: FLINT's rref of rows and shares, its faster way where they are not square: ours takes {x:.2} times as long");
         }
-        if let Some(x) = race.ratio("libgfshare") {
-            println!("recorded: libgfshare's combine, which verifies nothing: ours takes {x:.1} times as long");
+        if let (16, Some(x)) = (count, race.ratio("libgfshare")) {
+            println!("recorded: libgfshare's combine by 16, which verifies nothing: ours takes {x:.2} times as long");
         }
     }
 }

@@ -35,6 +35,16 @@ static uint16_t deal_all(void)
     return mavdrusek_deal_all(SETUP, matrix, ENTRIES, secret, keys, secret + keys, random, gs, ENTRIES, hs, ENTRIES);
 }
 
+/* The random entries first, so that the one of P that draw puts in front is refused; a byte is an entry, or 255 for 256. */
+static uint16_t deal_key(void)
+{
+    enum { KEY = 16, RANDOM = 33, PARTS = 112 };
+    uint8_t key[KEY];
+    for (int k = 0; k < KEY; k++)
+        key[k] = (uint8_t)(secret[RANDOM + k] - (secret[RANDOM + k] >> 8));
+    return mavdrusek_deal_key(key, KEY, secret, RANDOM, gs, PARTS, hs, PARTS);
+}
+
 static uint16_t pair_value(void)
 {
     uint16_t refused = 0;
@@ -67,7 +77,8 @@ static uint16_t indexing(void)
 }
 
 static const struct { const char *name; uint16_t (*run)(void); } calls[] = {
-    {"deal", deal}, {"deal_all", deal_all}, {"pair_value", pair_value}, {"combine", combine}, {"branching", branching}, {"indexing", indexing},
+    {"deal", deal},       {"deal_all", deal_all},   {"deal_key", deal_key}, {"pair_value", pair_value},
+    {"combine", combine}, {"branching", branching}, {"indexing", indexing},
 };
 
 static void draw(uint16_t p, uint64_t seed)

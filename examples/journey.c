@@ -1,4 +1,4 @@
-/* The journey of one key: dealt to 16 holders, judged by all of them, kept, combined, opened by seven; then a dealer that lies. Exit status 1 when
+/* The journey of one board key: dealt to 16 holders, judged by all of them, kept, combined, opened by seven; then a dealer that lies. Exit status 1 when
  * anything is not as expected. To build and run, in the repository's folder:
  *
  *   rt staticlib c_api
@@ -10,7 +10,8 @@
 
 #include "mavdrusek.h"
 
-enum { P = 257, L = 4, E = 3, N = 16, D = L + E, DEALING = 1 };
+/* The setup of every board key. */
+enum { P = 257, L = 4, E = 3, N = 16, D = L + E, KEY = L * L, DEALING = 1 };
 #define SETUP P, L, E, N
 
 static uint16_t matrix[N * D], gs[N * D], hs[N * D], shares[N][L];
@@ -49,8 +50,8 @@ static void judge_all(const uint16_t *rows, const uint16_t *columns, uint16_t *v
     }
 }
 
-/* Opens one column, or a combination of columns, of the holders in a set; the shares by rising holder. */
-static uint16_t open_column(uint32_t set, const uint16_t *by_holder, uint16_t *secrets, uint16_t *position)
+/* Opens a combination of columns by the holders in a set; its shares by rising holder. */
+static uint16_t open_combination(uint32_t set, const uint16_t *by_holder, uint16_t *secrets, uint16_t *position)
 {
     uint16_t handed[N];
     size_t count = 0;
@@ -58,6 +59,18 @@ static uint16_t open_column(uint32_t set, const uint16_t *by_holder, uint16_t *s
         if (set >> i & 1)
             handed[count++] = by_holder[i];
     return mavdrusek_open(SETUP, matrix, N * D, set, handed, count, secrets, L, position);
+}
+
+/* Opens a key by the holders in a set: their shares of column 0 by rising holder, then those of columns 1, 2 and 3. */
+static uint16_t open_key(uint32_t set, uint8_t *key, uint16_t *position)
+{
+    uint16_t handed[N * L];
+    size_t count = 0;
+    for (int b = 0; b < L; b++)
+        for (int i = 0; i < N; i++)
+            if (set >> i & 1)
+                handed[count++] = shares[i][b];
+    return mavdrusek_open_key(set, handed, count, key, KEY, position);
 }
 
 /* A holder's file: the setup, its part, the values it received and everyone's verdict; read back, printed, and refused where it is damaged. */
@@ -95,20 +108,21 @@ static void print_file(uint16_t holder, const uint16_t *verdicts)
 int main(void)
 {
     const char *text = "sixteen-byte key";
-    uint16_t key[L * L], random[D * D - L * L];
+    uint8_t key[KEY], opened[KEY] = {0};
+    const uint8_t untouched[KEY] = {0};
+    uint16_t random[D * D - KEY], array[KEY];
     uint16_t verdicts[N], named[N], kept, first, position = 0, yes, kind, fair, checker, sender;
-    uint16_t column[L], combined[N], by_holder[N], row[32];
+    uint16_t column[L], combined[N], row[32];
 
-    /* The setup that all agree on, a points matrix: any 7 holders determine the key, any 3 learn nothing. */
+    /* The matrix of board keys, a points matrix, which dealing and opening have built in: any 7 holders determine the key, any 3 learn nothing. */
     expect(mavdrusek_points(SETUP, matrix, N * D) == 0, "the points matrix");
     printf("points matrix: %d rows of %d\n", N, D);
 
     /* The dealer: a key of 16 bytes as four columns of four. */
-    for (int k = 0; k < L * L; k++)
-        key[k] = (uint8_t)text[k];
-    for (int k = 0; k < D * D - L * L; k++)
+    memcpy(key, text, KEY);
+    for (int k = 0; k < D * D - KEY; k++)
         random[k] = drawn();
-    expect(mavdrusek_deal_all(SETUP, matrix, N * D, key, L * L, random, D * D - L * L, gs, N * D, hs, N * D) == 0, "a dealing");
+    expect(mavdrusek_deal_key(key, KEY, random, D * D - KEY, gs, N * D, hs, N * D) == 0, "a dealing");
     expect(mavdrusek_rehearse(SETUP, matrix, N * D, gs, N * D, hs, N * D, &fair, &checker, &sender) == 0 && fair == 1, "a fair rehearsal");
     printf("dealt: four columns to %d holders; the rehearsal is fair\n", N);
 
@@ -131,27 +145,24 @@ int main(void)
         uint16_t constants[2] = {3, 5}, two[2] = {shares[i][0], shares[i][2]};
         expect(mavdrusek_combine(P, constants, 2, two, 2, &combined[i]) == 0, "a combination");
     }
-    expect(open_column(seven, combined, column, &position) == 0, "the combination opens");
+    expect(open_combination(seven, combined, column, &position) == 0, "the combination opens");
     for (int k = 0; k < L; k++)
         expect(column[k] == (3 * key[k] + 5 * key[2 * L + k]) % P, "the combination of the columns");
     printf("combined: 3 * column 0 + 5 * column 2 opens to %d %d %d %d\n", column[0], column[1], column[2], column[3]);
-    printf("opened by seven: \"");
-    for (int b = 0; b < L; b++) {
-        for (int i = 0; i < N; i++)
-            by_holder[i] = shares[i][b];
-        expect(open_column(seven, by_holder, column, &position) == 0, "a column opens");
-        expect(memcmp(column, key + b * L, sizeof column) == 0, "the column dealt");
-        printf("%c%c%c%c", column[0], column[1], column[2], column[3]);
-    }
-    printf("\"\n");
+    expect(open_key(seven, opened, &position) == 0, "the key opens");
+    expect(memcmp(opened, key, KEY) == 0, "the key dealt");
+    printf("opened by seven: \"%.*s\"\n", KEY, (char *)opened);
 
     /* Six of them cannot, three learn nothing (a sweeping vector for every position), and a changed share among eight is noticed. */
-    expect(open_column(seven & ~1u, by_holder, column, &position) == 6 && position == 0, "six cannot open");
+    memcpy(opened, untouched, KEY);
+    position = N;
+    expect(open_key(seven & ~1u, opened, &position) == 6 && position == 0, "six cannot open");
     expect(mavdrusek_private(SETUP, matrix, N * D, 7, &yes) == 0 && yes == 1, "three are private");
     for (uint16_t k = 0; k < L; k++)
         expect(mavdrusek_judge_set(SETUP, matrix, N * D, 7, k, row, 32, &kind) == 0 && kind == 2, "three have a sweeping vector for every position");
-    by_holder[5] = (by_holder[5] + 1) % P;
-    expect(open_column(0xff, by_holder, column, &position) == 7, "a changed share is refused");
+    shares[5][0] = (shares[5][0] + 1) % P;
+    expect(open_key(0xff, opened, &position) == 7, "a changed share is refused");
+    expect(memcmp(opened, untouched, KEY) == 0, "a refused opening writes no byte");
     printf("six cannot open, three learn nothing, a changed share among eight is refused\n");
 
     /* A dealer that lies: one entry of holder 5's row part is changed. */
@@ -174,5 +185,19 @@ int main(void)
     expect(named[9] == 0, "holder 9 names 0");
     expect(mavdrusek_outcome(SETUP, gs, D, verdicts, N, shares[0], L, &kept, &first) == 0 && kept == 0 && first == 9, "aborted by holder 9");
     printf("a lie in holder 9's column: holder 9 rejects and names 0; aborted by holder 9\n");
+
+    /* A dealer that deals 256 where a byte belongs, with new random entries, as each dealing needs: every holder accepts, for the parts agree, but what
+     * opens is no key. */
+    for (int k = 0; k < KEY; k++)
+        array[k] = k == 6 ? 256 : key[k];
+    for (int k = 0; k < D * D - KEY; k++)
+        random[k] = drawn();
+    expect(mavdrusek_deal_all(SETUP, matrix, N * D, array, KEY, random, D * D - KEY, gs, N * D, hs, N * D) == 0, "a dealing of 256");
+    judge_all(gs, hs, verdicts, named);
+    for (int i = 0; i < N; i++)
+        expect(mavdrusek_outcome(SETUP, gs + i * D, D, verdicts, N, shares[i], L, &kept, &first) == 0 && kept == 1, "kept");
+    uint16_t refusal = open_key(0xffff, opened, &position);
+    expect(refusal == 16 && memcmp(opened, untouched, KEY) == 0, "no key");
+    printf("256 dealt for a byte: all accept; opened by all, it is no key: refused %d\n", refusal);
     return 0;
 }

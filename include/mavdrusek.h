@@ -8,7 +8,7 @@
  * A field element is a number below p. Holders, columns and positions count from 0. A set of holders has bit i for holder i.
  *
  * Every function returns 0, or the number of the one refusal. After a refusal every lent buffer and every place keeps its contents, but for one place:
- * refusal 6 of mavdrusek_open gives its position, and a refusal of a holder's file the byte where the faulty record starts.
+ * refusal 6 of mavdrusek_open and mavdrusek_open_key gives its position, and a refusal of a holder's file the byte where the faulty record starts.
  * The lowest number that applies is given:
  *   1  p is none of the five
  *   2  l, e or n beyond its limits
@@ -26,6 +26,7 @@
  *  13  in a file: the holder's own VD is not what its own judgement gives
  *  14  retired, and never given: a combination of no shares is 0
  *  15  points matrix with d + n above p
+ *  16  an opened position of a board key is 256 and so no byte
  *  17  in a file: a PV or VD that is not the next one due
  * A reader tests the setup and the buffers that it is lent, then the mark, then the length, then the rest. (mavdrusek_read_setup_matrix knows the length
  * needed only from the record, and tests its buffer after the record's length.) In a file the first faulty record decides, and in it the mark, then the
@@ -111,6 +112,25 @@ uint16_t mavdrusek_judge_set(uint16_t p, uint16_t l, uint16_t e, uint16_t n, con
  * can open to false secrets. */
 uint16_t mavdrusek_open(uint16_t p, uint16_t l, uint16_t e, uint16_t n, const uint16_t *matrix, size_t matrix_len, uint32_t set,
                         const uint16_t *shares, size_t shares_len, uint16_t *secrets, size_t secrets_len, uint16_t *position);
+
+/* ---- Board keys: sixteen bytes in, sixteen bytes out
+ *
+ * The setup is p 257, l 4, e 3, n 16 with the points matrix, and no caller lends it: any 7 of the 16 holders open a key. Byte 4 * b + k of the key is
+ * position k of column b. Parts and shares are those of that setup; every other call takes them with its numbers and the matrix that mavdrusek_points
+ * gives. */
+
+/* Every holder's part of a key, as mavdrusek_deal_all gives them: holder i's g and h at i * 7 of `gs` and `hs`, 112 entries each. `key` has 16 bytes, any
+ * of 0 to 255; `random` has 33 elements, drawn evenly by the caller. Refusals 3, 4. */
+uint16_t mavdrusek_deal_key(const uint8_t *key, size_t key_len, const uint16_t *random, size_t random_len, uint16_t *gs, size_t gs_len, uint16_t *hs,
+                            size_t hs_len);
+
+/* Opens the set's shares of the four columns into the 16 bytes of `key`, as four calls of mavdrusek_open would: `shares` has those of column 0 by rising
+ * holder, then those of columns 1, 2 and 3. It has 4 times as many entries as there are ones among all 32 bits of the set, those at or above 16 included:
+ * such a set gets 5 with that many shares, and 3 with any other number. Refusals 3 to 7, 16; refusal 6 writes the lowest position with no row into
+ * *position although the call is refused; nothing else writes *position. 16 is given only where all four columns open: 7 in any column comes before a 256
+ * in any other.
+ * Where 7 of the openers are honest holders, the others can only cause a refusal; where fewer are, a false share can open to a false key. */
+uint16_t mavdrusek_open_key(uint32_t set, const uint16_t *shares, size_t shares_len, uint8_t *key, size_t key_len, uint16_t *position);
 
 /* ---- Writing records, each into a buffer of just its length */
 

@@ -30,7 +30,7 @@ const fn call(name: &'static str, refusals: &'static [u16], places: usize, eleme
     Call { name, refusals, places, elements, written, bytes }
 }
 
-pub const CALLS: [Call; 26] = [
+pub const CALLS: [Call; 28] = [
     call("points", &[1, 2, 3, 15], 0, &[], &[0], Bytes::None),
     call("deal", &[1, 2, 3, 4, 5], 0, &[0, 1, 2], &[3, 4], Bytes::None),
     call("deal to all", &[1, 2, 3, 4], 0, &[0, 1, 2], &[3, 4], Bytes::None),
@@ -57,17 +57,22 @@ pub const CALLS: [Call; 26] = [
     call("read SH", &[1, 2, 3, 4, 5, 8], 4, &[], &[], Bytes::Read),
     call("holder's file, contents", &[1, 2, 3, 4, 5, 8, 9, 10, 11, 12, 13, 17], 1, &[], &[0], Bytes::Read),
     call("field", &[1], 0, &[], &[], Bytes::None),
+    call("deal a key", &[3, 4], 0, &[0], &[1, 2], Bytes::Read),
+    call("open a key", &[3, 4, 5, 6, 7, 16], 1, &[0], &[], Bytes::Written),
 ];
 
 pub const FILE: u16 = 12;
 pub const READ_FILE: u16 = 24;
 pub const FIELD: u16 = 25;
+pub const DEAL_KEY: u16 = 26;
+pub const OPEN_KEY: u16 = 27;
 
 /// What every place holds before a call.
 pub const UNTOUCHED: u16 = 7777;
 
 /// A call by its number in CALLS, its numbers and its slices. The numbers are p, ℓ, e, n; then a holder, a set's low and high half and a position, or
-/// the fields of a record to be written. The slices of words are in the order of the call's parameters.
+/// the fields of a record to be written. The slices of words are in the order of the call's parameters. A board key is the slice of bytes; of the
+/// numbers its calls take the set alone.
 #[derive(Clone, Debug)]
 pub struct Case {
     pub call: u16,
@@ -147,6 +152,8 @@ impl Case {
             (23, []) => read_share(s, &bytes),
             (READ_FILE, [contents]) => read_file(&bytes, contents),
             (FIELD, []) => field(s.p),
+            (DEAL_KEY, [random, gs, hs]) => deal_key(&bytes, random, gs, hs),
+            (OPEN_KEY, [shares]) => open_key(set, shares, &mut bytes),
             _ => panic!("no such call: {self:?}"),
         };
         let places = (0..self.of().places).map(|k| answer.values.get(k).copied().unwrap_or(UNTOUCHED)).collect();

@@ -53,6 +53,10 @@ fn ours(case: &Case) -> After {
             (22, []) => mavdrusek_read_verdict(p, l, e, n, part, part_len, a, b, c),
             (23, []) => mavdrusek_read_share(p, l, e, n, part, part_len, a, b, c, d),
             (FIELD, []) => mavdrusek_field(p),
+            (DEAL_KEY, [r, g, h]) => {
+                mavdrusek_deal_key(part, part_len, r.as_ptr(), r.len(), g.as_mut_ptr(), g.len(), h.as_mut_ptr(), h.len())
+            }
+            (OPEN_KEY, [s]) => mavdrusek_open_key(set, s.as_ptr(), s.len(), part, part_len, a),
             _ => panic!("no such call: {case:?}"),
         }
     };

@@ -151,6 +151,14 @@ impl<'a> Draw<'a> {
         (0..self.s.n).filter(|i| set >> i & 1 == 1).map(|i| pair_value(self.s, &self.m, v, i).values[0]).collect()
     }
 
+    /// The opening of a key by a set, each column with the shares that its vector gives.
+    pub fn opening(&mut self, set: u32, columns: &[Vec<u16>; 4]) -> Case {
+        let shares = columns.iter().flat_map(|v| self.shares(v, set)).collect();
+        let mut c = Case { call: OPEN_KEY, numbers: [0; 8], words: vec![shares], bytes: self.r.noise_bytes(KEY) };
+        c.choose(set);
+        c
+    }
+
     fn spoil(&mut self, xs: &mut [u16]) {
         if !xs.is_empty() {
             let k = self.r.below(xs.len());
@@ -237,6 +245,19 @@ impl<'a> Draw<'a> {
                     }
                     c.words.extend([shares, self.r.noise(l)]);
                 }
+            }
+            DEAL_KEY => {
+                c.numbers = [0; 8];
+                c.words = vec![self.r.elements(s.p, d * d - l * l), self.r.noise(s.entries()), self.r.noise(s.entries())];
+                c.bytes = self.r.noise_bytes(KEY);
+            }
+            OPEN_KEY => {
+                let set = self.set();
+                let mut columns = [(); 4].map(|_| [self.r.elements(256, l), self.r.elements(s.p, d - l)].concat());
+                if self.r.chance(6) {
+                    columns[self.r.below(4)][self.r.below(l)] = 256;
+                }
+                c = self.opening(set, &columns);
             }
             FILE => c.bytes = self.file(),
             13..=17 => {
@@ -361,10 +382,36 @@ fn resize<T: Default>(r: &mut Random, x: &mut Vec<T>) {
     }
 }
 
+/// Breaks a call on a board key: a length, an element, the set alone or with the shares of a member more or fewer, or a share.
+fn damage_key(r: &mut Random, c: &mut Case) {
+    match r.below(5) {
+        0 => match r.below(c.words.len() + 1) {
+            k if k < c.words.len() => resize(r, &mut c.words[k]),
+            _ => resize(r, &mut c.bytes),
+        },
+        k @ (1 | 4) if !c.words[0].is_empty() => {
+            let at = r.below(c.words[0].len());
+            c.words[0][at] = if k == 1 { r.one(&[257, 258, 513, 65535]) } else { r.below(257) as u16 };
+        }
+        k @ (2 | 3) if c.call == OPEN_KEY => {
+            let bit = r.below(32);
+            c.choose(c.set() ^ 1 << bit);
+            if k == 3 {
+                let size = 4 * c.set().count_ones() as usize;
+                c.words[0].resize(size, bit as u16);
+            }
+        }
+        _ => {}
+    }
+}
+
 /// Breaks a case: a length, an element, a number, a set, a record or a file.
 fn damage(r: &mut Random, c: &mut Case) {
     if c.call == FILE {
         return damage_file(r, &mut c.bytes);
+    }
+    if c.call == DEAL_KEY || c.call == OPEN_KEY {
+        return damage_key(r, c);
     }
     let [p, l, _, n, ..] = c.numbers;
     let limits = [0, 1, 2, l, l.wrapping_sub(1), n, n.wrapping_sub(1), p, p.wrapping_sub(1), 9, 33, 65535];
@@ -434,6 +481,10 @@ pub fn damaged(r: &mut Random, mut c: Case) -> Case {
 /// A case of a call.
 pub fn draw(r: &mut Random, call: u16) -> Case {
     let on_a_set = (8..=11).contains(&call);
+    if call == DEAL_KEY || call == OPEN_KEY {
+        let c = Draw::with(r, BOARD, POINTS).case(call);
+        return damaged(r, c);
+    }
     let c = match r.below(8) {
         0 => Draw::any(r).case(call),
         1..=4 if on_a_set => Draw::wide(r).case(call),

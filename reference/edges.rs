@@ -88,25 +88,29 @@ fn sizes(r: &mut Random, cases: &mut Vec<Case>) {
     cases.extend(near.map(|p| blank(FIELD, params(p, 0, 0, 0))));
 }
 
-/// Every slice of every call shorter and longer by one, and empty.
+/// Every slice of a case shorter and longer by one, and empty.
+fn near_lengths(c: &Case, cases: &mut Vec<Case>) {
+    for k in 0..c.words.len() {
+        let mut near = [c.clone(), c.clone(), c.clone()];
+        near[0].words[k].pop();
+        near[1].words[k].push(0);
+        near[2].words[k].clear();
+        cases.extend(near);
+    }
+    if c.of().bytes != Bytes::None {
+        let mut near = [c.clone(), c.clone(), c.clone()];
+        near[0].bytes.pop();
+        near[1].bytes.push(0);
+        near[2].bytes.clear();
+        cases.extend(near);
+    }
+}
+
+/// The lengths of the slices of every call.
 fn lengths(r: &mut Random, cases: &mut Vec<Case>) {
     for call in (0..24).filter(|&call| call != FILE) {
         for s in [params(7, 1, 1, 3), params(257, 3, 2, 4)] {
-            let c = sound(r, call, s);
-            for k in 0..c.words.len() {
-                let mut near = [c.clone(), c.clone(), c.clone()];
-                near[0].words[k].pop();
-                near[1].words[k].push(0);
-                near[2].words[k].clear();
-                cases.extend(near);
-            }
-            if c.of().bytes != Bytes::None {
-                let mut near = [c.clone(), c.clone(), c.clone()];
-                near[0].bytes.pop();
-                near[1].bytes.push(0);
-                near[2].bytes.clear();
-                cases.extend(near);
-            }
+            near_lengths(&sound(r, call, s), cases);
         }
     }
 }
@@ -567,6 +571,182 @@ pub fn contents(r: &mut Random, files: &[Vec<u8>]) -> Vec<Case> {
             push([17, 19, 0][k / 12 % 3]);
         }
     }
+    cases
+}
+
+/// Keys dealt: bytes and entries at their limits, the lengths, an entry of 257 or more; 3 beside 4.
+fn dealt_keys(r: &mut Random, cases: &mut Vec<Case>) {
+    let c = sound(r, DEAL_KEY, BOARD);
+    cases.push(c.clone());
+    for (byte, entry) in [(0, 0), (255, 256), (255, 0), (0, 256)] {
+        let mut c = c.clone();
+        c.bytes.fill(byte);
+        c.words[0].fill(entry);
+        cases.push(c);
+    }
+    near_lengths(&c, cases);
+    for (at, entry) in [(0, 257), (16, 257), (32, 257), (0, 65535), (32, 65535), (7, 258), (11, 512)] {
+        let mut c = c.clone();
+        c.words[0][at] = entry;
+        cases.push(c.clone());
+        if entry == 257 {
+            c.words[1 + at / 32].pop();
+            cases.push(c);
+        }
+    }
+    let mut c = c.clone();
+    c.words[0].push(257);
+    cases.push(c.clone());
+    c.bytes.pop();
+    cases.push(c);
+}
+
+/// Four vectors behind a key's shares, with bytes at all positions.
+fn behind_a_key(r: &mut Random) -> [Vec<u16>; 4] {
+    [(); 4].map(|_| [r.elements(256, 4), r.elements(257, 3)].concat())
+}
+
+/// A key opened by a set, with bytes at all positions.
+fn opening(r: &mut Random, set: u32) -> Case {
+    let columns = behind_a_key(r);
+    Draw::with(r, BOARD, POINTS).opening(set, &columns)
+}
+
+/// A share of one column, by its place among the members' shares, made another.
+fn falsify(c: &mut Case, column: usize, place: usize) {
+    let count = c.set().count_ones() as usize;
+    let share = &mut c.words[0][column * count + place];
+    *share = (*share + 1) % 257;
+}
+
+/// Other bits in a set, with as many shares as it then needs.
+fn widen(c: &mut Case, bits: u32) {
+    let set = c.set() | bits;
+    c.choose(set);
+    c.words[0].resize(4 * set.count_ones() as usize, 0);
+}
+
+/// Sets of 7, of 8 and of 6 members.
+const SEVEN: u32 = 0x84B5;
+const EIGHT: u32 = 0x5555;
+const SIX: u32 = 0x84B4;
+
+/// Keys opened: by sets of every size, with each position at 256, with each share false, with 256 and a false share together, with sets and lengths and
+/// elements at their limits and past them.
+fn opened_keys(r: &mut Random, cases: &mut Vec<Case>) {
+    for set in [SEVEN, 0x7F, 0xFE00, EIGHT, 0xAAAA, 0x7FFF, 0xFFFF, 0, 1, 0x8000, 0x111, SIX, 0x3F, 0xFC00] {
+        cases.push(opening(r, set));
+    }
+    for set in [SEVEN, 0xFFFF] {
+        for x in [0, 1, 255, 256] {
+            let mut c = opening(r, set);
+            c.words[0].fill(x);
+            cases.push(c);
+        }
+        // each position at 256; then all of one column, and all
+        for at in (0..16).map(|k| k..k + 1).chain([4..8, 0..16]) {
+            let mut columns = behind_a_key(r);
+            at.for_each(|k| columns[k / 4][k % 4] = 256);
+            cases.push(Draw::with(r, BOARD, POINTS).opening(set, &columns));
+        }
+        // a random entry of 256 is no position
+        for b in 0..4 {
+            let mut columns = behind_a_key(r);
+            columns[b][4..].fill(256);
+            cases.push(Draw::with(r, BOARD, POINTS).opening(set, &columns));
+        }
+    }
+    // one false share: of eight, and of sixteen; of seven it opens to something else
+    for (set, count) in [(EIGHT, 8), (0xFFFF, 16), (SEVEN, 7)] {
+        let c = opening(r, set);
+        for b in 0..4 {
+            for place in (0..count).filter(|place| count == 8 || place % 4 == b) {
+                let mut c = c.clone();
+                falsify(&mut c, b, place);
+                cases.push(c);
+            }
+        }
+    }
+    // 16 beside 7: a position of one column at 256, a false share in one
+    for (set, last) in [(EIGHT, 7), (0xFFFF, 15)] {
+        for k in 0..16 {
+            let (b, column) = (k / 4, k % 4);
+            let mut columns = behind_a_key(r);
+            columns[b][(b + column) % 4] = 256;
+            let mut c = Draw::with(r, BOARD, POINTS).opening(set, &columns);
+            falsify(&mut c, column, if b % 2 == 0 { 0 } else { last });
+            cases.push(c);
+        }
+    }
+    // lengths: by one entry, by a member, by a column
+    for set in [SEVEN, 0xFFFF, SIX, 0] {
+        let c = opening(r, set);
+        near_lengths(&c, cases);
+        let count = set.count_ones() as usize;
+        for size in distinct(vec![count, 3 * count, 5 * count, 4 * count + 4, (4 * count).saturating_sub(4)]) {
+            let mut c = c.clone();
+            c.words[0].resize(size, 0);
+            cases.push(c);
+        }
+    }
+    // elements
+    for set in [SEVEN, EIGHT, 0xFFFF] {
+        let c = opening(r, set);
+        let count = set.count_ones() as usize;
+        for (at, x) in [(0, 257), (count - 1, 257), (count, 258), (3 * count, 65535), (4 * count - 1, 257), (4 * count - 1, 65535)] {
+            let mut c = c.clone();
+            c.words[0][at] = x;
+            cases.push(c);
+        }
+    }
+    // bits at 16 and above, counted and not
+    for set in [0, 1, SIX, SEVEN, 0xFFFF] {
+        for bits in [1 << 16, 1 << 31, 0xFFFF0000] {
+            let c = opening(r, set);
+            let mut counted = c.clone();
+            widen(&mut counted, bits);
+            let mut uncounted = c.clone();
+            uncounted.choose(set | bits);
+            cases.extend([counted, uncounted]);
+        }
+    }
+    // every two refusals together, and all of them
+    let all = CALLS[OPEN_KEY as usize].refusals;
+    for a in 0..all.len() {
+        for b in a..all.len() {
+            let mut c = opening(r, EIGHT);
+            key_fault(r, &mut c, all[b]);
+            key_fault(r, &mut c, all[a]);
+            cases.push(c);
+        }
+        let mut c = opening(r, EIGHT);
+        all[a..].iter().rev().for_each(|&number| key_fault(r, &mut c, number));
+        cases.push(c);
+    }
+}
+
+/// Makes a refusal apply to the opening of a key.
+fn key_fault(r: &mut Random, c: &mut Case, number: u16) {
+    match number {
+        3 => c.bytes.push(0),
+        4 => c.words[0][9] = 257,
+        5 => widen(c, 1 << 16),
+        6 => *c = opening(r, SIX),
+        7 => falsify(c, 3, 7),
+        16 => {
+            let mut columns = behind_a_key(r);
+            columns[2][1] = 256;
+            *c = Draw::with(r, BOARD, POINTS).opening(EIGHT, &columns);
+        }
+        _ => panic!("no such refusal: {number}"),
+    }
+}
+
+/// The cases of board keys.
+pub fn keys(r: &mut Random) -> Vec<Case> {
+    let mut cases = vec![];
+    dealt_keys(r, &mut cases);
+    opened_keys(r, &mut cases);
     cases
 }
 

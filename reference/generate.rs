@@ -19,7 +19,7 @@ fn stored() -> (Vec<u8>, String) {
     let mut r = Random(20140901);
     let mut all = edges::edges(&mut r);
     for round in 0..40 {
-        for call in (0..CALLS.len() as u16).filter(|&call| call != READ_FILE) {
+        for call in (0..DEAL_KEY).filter(|&call| call != READ_FILE) {
             // the largest files and matrices now and then only, so that what is stored stays small
             let c = loop {
                 let c = draw(&mut r, call);
@@ -32,6 +32,12 @@ fn stored() -> (Vec<u8>, String) {
     }
     let files: Vec<Vec<u8>> = all.iter().filter(|c| c.call == FILE).map(|c| c.bytes.clone()).collect();
     all.extend(edges::contents(&mut r, &files));
+    // board keys, from a seed of their own: what stands before them stays as it is
+    let mut r = Random(20261116);
+    all.extend(edges::keys(&mut r));
+    for round in 0..60 {
+        all.push(draw(&mut r, if round % 3 == 0 { DEAL_KEY } else { OPEN_KEY }));
+    }
     let (mut input, mut output) = (vec![], String::new());
     let mut counts = vec![BTreeMap::new(); CALLS.len()];
     for c in &all {

@@ -1,5 +1,5 @@
-//! Document 01, with the requests of document 02 that have landed (A1, A2), in plain safe Rust: every call and the holder's file, written from the documents
-//! in the most direct way. It shares nothing with the proved library; the two are compared on many inputs.
+//! Document 01, with the requests of document 02 that have landed (A1, A2, A3), in plain safe Rust: every call and the holder's file, written from the
+//! documents in the most direct way. It shares nothing with the proved library; the two are compared on many inputs.
 
 /// A refusal's number (0: none) and the values given beside it.
 #[derive(Clone, Debug, PartialEq, Eq)]
@@ -437,6 +437,51 @@ pub fn open(s: Params, m: &[u16], set: u32, shares: &[u16], secrets: &mut [u16])
             given(&[])
         }
     }
+}
+
+// ---- board keys
+
+/// The setup of every board key; its matrix is the points matrix.
+pub const BOARD: Params = Params { p: 257, l: 4, e: 3, n: 16 };
+/// Bytes of a board key.
+pub const KEY: usize = 16;
+
+fn board_matrix() -> Vec<u16> {
+    let mut m = vec![0; BOARD.entries()];
+    points(BOARD, &mut m);
+    m
+}
+
+/// Every holder's part of a key: byte 4b + k is position k of column b.
+pub fn deal_key(key: &[u8], random: &[u16], gs: &mut [u16], hs: &mut [u16]) -> Answer {
+    let secrets: Vec<u16> = key.iter().map(|&byte| byte as u16).collect();
+    deal_all(BOARD, &board_matrix(), &secrets, random, gs, hs)
+}
+
+/// Four openings, of the set's shares of column 0, then of 1, 2 and 3. A position of 256 is no byte: 16, where all four open.
+pub fn open_key(set: u32, shares: &[u16], key: &mut [u8]) -> Answer {
+    let (m, count) = (board_matrix(), set.count_ones() as usize);
+    let mut f = set_faults(&BOARD, &m, set);
+    f.length(shares, 4 * count);
+    f.length(key, KEY);
+    f.elements(BOARD.p, shares);
+    if let Some(k) = f.lowest() {
+        return refused(k);
+    }
+    let mut opened = [0; KEY];
+    for b in 0..4 {
+        let answer = open(BOARD, &m, set, &shares[b * count..(b + 1) * count], &mut opened[4 * b..4 * b + 4]);
+        if answer.number != 0 {
+            return answer;
+        }
+    }
+    if opened.contains(&256) {
+        return refused(16);
+    }
+    for (byte, x) in key.iter_mut().zip(opened) {
+        *byte = x as u8;
+    }
+    given(&[])
 }
 
 // ---- records

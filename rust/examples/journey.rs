@@ -1,16 +1,17 @@
-//! The journey of one key: dealt to 16 holders, judged by all of them, kept, combined, opened by seven; then a dealer that lies. Each step says
+//! The journey of one board key: dealt to 16 holders, judged by all of them, kept, combined, opened by seven; then a dealer that lies. Each step says
 //! what it found and stops the program if that is not what it should be (`cargo run --offline --example journey`).
 
 use mavdrusek::*;
 
-const SETUP: Setup = Setup { p: 257, l: 4, e: 3, n: 16 };
+/// The setup of every board key: p 257, l 4, e 3, n 16.
+const SETUP: Setup = BOARD;
 const D: usize = 7;
 const HOLDERS: u16 = 16;
 
 /// A fixed generator, so that the example prints the same each time. A real dealer must draw each entry evenly below p from a secure source:
 /// whoever can guess the random entries learns the key from a single part.
-fn drawn(count: usize) -> Vec<u16> {
-    let mut state: u64 = 2014;
+fn drawn(seed: u64, count: usize) -> Vec<u16> {
+    let mut state = seed;
     let mut next = || {
         state = state.wrapping_mul(6364136223846793005).wrapping_add(1442695040888963407);
         ((state >> 33) % SETUP.p as u64) as u16
@@ -36,6 +37,11 @@ fn verdicts(found: &[Judgement]) -> Vec<Verdict> {
     found.iter().map(|j| j.verdict()).collect()
 }
 
+/// What a set hands in to open a key: its shares of column 0 by rising holder, then those of columns 1, 2 and 3.
+fn handed(shares: &[[u16; 4]; 16], set: u32) -> Vec<u16> {
+    (0..4).flat_map(|b| (0..16).filter(move |i| set >> i & 1 == 1).map(move |i| shares[i][b])).collect()
+}
+
 /// A holder's file: the setup, its part, the values it received and everyone's verdict.
 fn file(matrix: &[u16], gs: &[u16], hs: &[u16], said: &[Verdict], holder: u16) -> Result<Vec<u8>, Refusal> {
     let mut bytes = vec![0; SETUP.setup_bytes() + SETUP.dealing_bytes()];
@@ -56,15 +62,15 @@ fn file(matrix: &[u16], gs: &[u16], hs: &[u16], said: &[Verdict], holder: u16) -
 }
 
 pub fn main() -> Result<(), Refusal> {
-    // The setup that all agree on, a points matrix: any 7 holders determine the key, any 3 learn nothing.
+    // The matrix of board keys, a points matrix, which dealing and opening have built in: any 7 holders determine the key, any 3 learn nothing.
     let mut matrix = vec![0; SETUP.entries()];
     SETUP.points(&mut matrix)?;
     println!("points matrix: {} rows of {D}", HOLDERS);
 
     // The dealer: a key of 16 bytes as four columns of four.
-    let key: Vec<u16> = b"sixteen-byte key".iter().map(|&b| b as u16).collect();
+    let key = Key::from_bytes(*b"sixteen-byte key");
     let (mut gs, mut hs) = (vec![0; SETUP.entries()], vec![0; SETUP.entries()]);
-    SETUP.deal_all(&matrix, &key, &drawn(SETUP.random()), &mut gs, &mut hs)?;
+    deal_key(&key, &drawn(2014, SETUP.random()), &mut gs, &mut hs)?;
     assert_eq!(SETUP.rehearse(&matrix, &gs, &hs)?, Rehearsal::Fair);
     println!("dealt: four columns to {HOLDERS} holders; the rehearsal is fair");
 
@@ -103,31 +109,25 @@ pub fn main() -> Result<(), Refusal> {
     let combined = openers.iter().map(|&i| combine(257, &[3, 5], &[shares[i][0], shares[i][2]])).collect::<Result<Vec<_>, _>>()?;
     let mut column = [0; 4];
     SETUP.open(&matrix, seven, &combined, &mut column)?;
+    let dealt: Vec<u16> = key.as_bytes().iter().map(|&byte| byte as u16).collect();
     for k in 0..4 {
-        assert_eq!(column[k], (3 * key[k] + 5 * key[8 + k]) % 257);
+        assert_eq!(column[k], (3 * dealt[k] + 5 * dealt[8 + k]) % 257);
     }
     println!("combined: 3 * column 0 + 5 * column 2 opens to {column:?}");
-    let mut opened = vec![];
-    for b in 0..4 {
-        let handed: Vec<u16> = openers.iter().map(|&i| shares[i][b]).collect();
-        SETUP.open(&matrix, seven, &handed, &mut column)?;
-        opened.extend(column);
-    }
-    assert_eq!(opened, key);
-    let bytes: Vec<u8> = opened.iter().map(|&x| x as u8).collect();
-    println!("opened by holders {openers:?}: \"{}\"", String::from_utf8_lossy(&bytes));
+    let opened = open_key(seven, &handed(&shares, seven))?;
+    assert!(opened == key);
+    println!("opened by holders {openers:?}: \"{}\"", String::from_utf8_lossy(opened.as_bytes()));
 
     // Six of them cannot, three learn nothing (a sweeping vector for every position), and a changed share among eight is noticed.
     let six = seven & (seven - 1);
-    let handed: Vec<u16> = openers[1..].iter().map(|&i| shares[i][0]).collect();
-    assert_eq!(SETUP.open(&matrix, six, &handed, &mut column), Err(Refusal::Undetermined { position: 0 }));
+    assert_eq!(open_key(six, &handed(&shares, six)).err(), Some(Refusal::Undetermined { position: 0 }));
     assert!(SETUP.private(&matrix, 0b111)?);
     for position in 0..4 {
         assert_eq!(SETUP.judge_set(&matrix, 0b111, position, &mut [0; SET_ENTRIES])?, SetKind::Vector);
     }
-    let mut handed: Vec<u16> = (0..8).map(|i| shares[i][0]).collect();
-    handed[5] = (handed[5] + 1) % 257;
-    assert_eq!(SETUP.open(&matrix, 0xff, &handed, &mut column), Err(Refusal::Inconsistent));
+    let mut eight = handed(&shares, 0xff);
+    eight[5] = (eight[5] + 1) % 257;
+    assert_eq!(open_key(0xff, &eight).err(), Some(Refusal::Inconsistent));
     println!("six cannot open, three learn nothing, a changed share among eight is refused");
 
     // A dealer that lies: one entry of holder 5's row part is changed.
@@ -149,5 +149,17 @@ pub fn main() -> Result<(), Refusal> {
     assert_eq!((rejecting, found[9]), (vec![9], Judgement::Reject(0)));
     assert_eq!(SETUP.outcome(part(&gs, 0), &verdicts(&found), &mut none)?, Outcome::Aborted(9));
     println!("a lie in holder 9's column: holder 9 rejects and names 0; aborted by holder 9");
+
+    // A dealer that deals 256 where a byte belongs, with new random entries, as each dealing needs: every holder accepts, for the parts agree, but what
+    // opens is no key.
+    let mut array = dealt;
+    array[6] = 256;
+    SETUP.deal_all(&matrix, &array, &drawn(256, SETUP.random()), &mut gs, &mut hs)?;
+    assert_eq!(judgements(&matrix, &gs, &hs)?, vec![Judgement::Accept; 16]);
+    for i in 0..HOLDERS {
+        assert_eq!(SETUP.outcome(part(&gs, i), &said, &mut shares[i as usize])?, Outcome::Kept);
+    }
+    assert_eq!(open_key(0xffff, &handed(&shares, 0xffff)).err(), Some(Refusal::NoByte));
+    println!("256 dealt for a byte: all accept; opened by all, it is no key: {}", Refusal::NoByte);
     Ok(())
 }

@@ -14,7 +14,9 @@
 //! passes slices and turns numbers into types. The library tests all it is lent, lengths too, and refuses what is wrong; after a refusal every lent
 //! slice holds what it held before.
 //!
-//! Types that carry shares or pair values have no `Debug` and are not `Copy`, so that they are not printed or copied in passing. Nothing is wiped:
+//! A board key is sixteen bytes over one fixed setup, [`BOARD`]: [`deal_key`] and [`open_key`] take and give it as a [`Key`].
+//!
+//! Types that carry keys, shares or pair values have no `Debug` and are not `Copy`, so that they are not printed or copied in passing. Nothing is wiped:
 //! what a call worked with stays on the stack, and what a caller lent is the caller's to clear.
 //!
 //! A setup is four numbers, [`Setup`], with its matrix beside them in a slice of n · d field elements by rows, where d = ℓ + e. Holders, columns
@@ -71,6 +73,10 @@ pub const VERDICT_BYTES: usize = 8;
 pub const SHARE_BYTES: usize = 10;
 /// The most bytes of a holder's file.
 pub const MOST_FILE_BYTES: usize = 4096;
+/// The setup of every board key. Its matrix is the points matrix.
+pub const BOARD: Setup = Setup { p: 257, l: 4, e: 3, n: 16 };
+/// Bytes of a board key.
+pub const KEY_BYTES: usize = 16;
 
 /// Why a call declined. Where more than one applies, a call gives the one with the lowest number; a reader judges the setup it is given, then
 /// the mark, then the length, then the rest. Number 14 is retired: no call gives it, and it has no case here.
@@ -108,6 +114,8 @@ pub enum Refusal {
     OwnVerdict,
     /// 15: a points matrix with d + n above p.
     TooFewPoints,
+    /// 16: an opened position of a board key is 256 and so no byte.
+    NoByte,
     /// 17: in a file a PV or VD that is not the next one due: the PV come by rising sender, then the VD by rising holder.
     Order,
 }
@@ -130,6 +138,7 @@ impl Refusal {
             Refusal::NoVerdict => 12,
             Refusal::OwnVerdict => 13,
             Refusal::TooFewPoints => 15,
+            Refusal::NoByte => 16,
             Refusal::Order => 17,
         }
     }
@@ -152,6 +161,7 @@ impl fmt::Display for Refusal {
             Refusal::NoVerdict => "a verdict is neither 0 nor 1",
             Refusal::OwnVerdict => "the own verdict is not what the own judgement gives",
             Refusal::TooFewPoints => "the field has fewer than d + n elements",
+            Refusal::NoByte => "an opened position is 256 and so no byte",
             Refusal::Order => "a record is not the next one due",
         };
         write!(f, "refused {}: {why}", self.number())
@@ -178,6 +188,7 @@ fn answer(number: u16, position: u16) -> Result<(), Refusal> {
         12 => Refusal::NoVerdict,
         13 => Refusal::OwnVerdict,
         15 => Refusal::TooFewPoints,
+        16 => Refusal::NoByte,
         17 => Refusal::Order,
         other => unreachable!("the linked library gave {other}, which no call gives"),
     })
@@ -685,6 +696,69 @@ pub fn combine(p: u16, constants: &[u16], shares: &[u16]) -> Result<u16, Refusal
     let number = unsafe { raw::mavdrusek_combine(p, constants.as_ptr(), constants.len(), shares.as_ptr(), shares.len(), &mut value) };
     answer(number, 0)?;
     Ok(value)
+}
+
+/// A board key. It is the secret itself, so it has no `Debug`.
+#[derive(Clone, PartialEq, Eq)]
+pub struct Key([u8; KEY_BYTES]);
+
+impl Key {
+    /// The key of these bytes.
+    pub fn from_bytes(bytes: [u8; KEY_BYTES]) -> Key {
+        Key(bytes)
+    }
+
+    /// Its bytes.
+    pub fn as_bytes(&self) -> &[u8; KEY_BYTES] {
+        &self.0
+    }
+}
+
+/// Writes every holder's part of a key, as [`Setup::deal_all`] does on [`BOARD`] with its points matrix: holder i's g and h at i · 7 of `gs` and `hs`, 112
+/// entries each. Byte 4b + k of the key is position k of column b. `random` has 33 elements, which the caller draws evenly from a secure source. Refusals
+/// 3, 4.
+///
+/// ```
+/// use mavdrusek::{deal_key, open_key, Key, Refusal, BOARD};
+///
+/// let key = Key::from_bytes(*b"sixteen-byte key");
+/// // A real dealer draws the random entries evenly, from a secure source.
+/// let random = [5; 33];
+/// let (mut gs, mut hs) = ([0; 112], [0; 112]);
+/// deal_key(&key, &random, &mut gs, &mut hs)?;
+///
+/// // Seven holders hand in their shares: all of column 0, then all of column 1, 2 and 3.
+/// let seven = 0b1111111;
+/// let shares: Vec<u16> = (0..4).flat_map(|column| gs.chunks(BOARD.d()).take(7).map(move |g| g[column])).collect();
+/// assert!(open_key(seven, &shares)? == key);
+/// assert_eq!(open_key(0b111, &shares[..12]).err(), Some(Refusal::Undetermined { position: 0 }));
+/// # Ok::<(), Refusal>(())
+/// ```
+pub fn deal_key(key: &Key, random: &[u16], gs: &mut [u16], hs: &mut [u16]) -> Result<(), Refusal> {
+    let number = unsafe {
+        raw::mavdrusek_deal_key(
+            key.0.as_ptr(),
+            key.0.len(),
+            random.as_ptr(),
+            random.len(),
+            gs.as_mut_ptr(),
+            gs.len(),
+            hs.as_mut_ptr(),
+            hs.len(),
+        )
+    };
+    answer(number, 0)
+}
+
+/// Opens the set's shares of a key's four columns: those of column 0 by rising holder, then those of columns 1, 2 and 3. Four times as many are needed as
+/// there are ones among all 32 bits of the set. 7 in any column comes before 16. Refusals 3 to 7, 16.
+///
+/// With seven honest holders among the openers, the others can only cause a refusal; with fewer, a false share can open to a false key.
+pub fn open_key(set: u32, shares: &[u16]) -> Result<Key, Refusal> {
+    let (mut key, mut position) = (Key([0; KEY_BYTES]), 0);
+    let number = unsafe { raw::mavdrusek_open_key(set, shares.as_ptr(), shares.len(), key.0.as_mut_ptr(), key.0.len(), &mut position) };
+    answer(number, position)?;
+    Ok(key)
 }
 
 /// What a holder's file says. It carries shares, so it has no `Debug`.

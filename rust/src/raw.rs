@@ -128,6 +128,17 @@ unsafe extern "C" {
         secrets_len: usize,
         position: *mut u16,
     ) -> u16;
+    pub fn mavdrusek_deal_key(
+        key: *const u8,
+        key_len: usize,
+        random: *const u16,
+        random_len: usize,
+        gs: *mut u16,
+        gs_len: usize,
+        hs: *mut u16,
+        hs_len: usize,
+    ) -> u16;
+    pub fn mavdrusek_open_key(set: u32, shares: *const u16, shares_len: usize, key: *mut u8, key_len: usize, position: *mut u16) -> u16;
     pub fn mavdrusek_write_setup(
         p: u16,
         l: u16,

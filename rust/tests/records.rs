@@ -79,7 +79,7 @@ fn share() {
     }
 }
 
-/// Types that carry shares or pair values are neither printed by `{:?}` nor copied in passing.
+/// Types that carry keys, shares or pair values are neither printed by `{:?}` nor copied in passing.
 #[test]
 fn not_printed_not_copied() {
     // Where a type is Debug or Copy more than one of these applies, and the lines below do not compile.
@@ -92,4 +92,5 @@ fn not_printed_not_copied() {
     <PairValueRecord as Neither<_>>::neither();
     <ShareRecord as Neither<_>>::neither();
     <FileContents as Neither<_>>::neither();
+    <Key as Neither<_>>::neither();
 }

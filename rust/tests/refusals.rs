@@ -22,6 +22,7 @@ fn numbers() {
         (Refusal::NoVerdict, 12),
         (Refusal::OwnVerdict, 13),
         (Refusal::TooFewPoints, 15),
+        (Refusal::NoByte, 16),
         (Refusal::Order, 17),
     ];
     for (refusal, number) in all {
@@ -66,7 +67,7 @@ fn limits() {
     }
 }
 
-/// Every call on a sound setup with empty slices, but for a combination, which answers.
+/// Every call on a sound setup with empty slices, but for a combination, which answers, and the opening of a key by nobody.
 #[test]
 fn empty_slices() {
     assert_eq!(SETUP.points(&mut []), Err(Refusal::Length));
@@ -80,6 +81,8 @@ fn empty_slices() {
     assert_eq!(SETUP.private(&[], 0), Err(Refusal::Length));
     assert_eq!(SETUP.judge_set(&[], 0, 0, &mut []), Err(Refusal::Length));
     assert_eq!(SETUP.open(&[], 0, &[], &mut []), Err(Refusal::Length));
+    assert_eq!(deal_key(&Key::from_bytes([0; KEY_BYTES]), &[], &mut [], &mut []), Err(Refusal::Length));
+    assert_eq!(open_key(0b111_1111, &[]).err(), Some(Refusal::Length));
     assert_eq!(SETUP.write_setup(&[], &mut []), Err(Refusal::Length));
     assert_eq!(SETUP.write_dealing(&DealingRecord { dealing: 1, holder: 0 }, &[], &[], &mut []), Err(Refusal::Length));
     let pair = PairValueRecord { dealing: 1, sender: 0, receiver: 0, value: 0 };

@@ -6,6 +6,8 @@ ghost use Rattle.field.specs.Fields.{fieldAnswer};
 ghost use Rattle.scheme.specs.Calls.{pointsCall, pointsLeft, dealCall, dealLeftG, dealLeftH, dealAllCall, dealAllLeftG, dealAllLeftH};
 ghost use Rattle.scheme.specs.Calls.{pairValueCall, judgeCall, outcomeCall, outcomeLeft, rehearseCall, combineCall};
 ghost use Rattle.scheme.specs.Calls.{determinesCall, privateCall, judgeSetCall, openCall, openLeft};
+ghost use Rattle.scheme.specs.Answers.{paperOpened};
+ghost use Rattle.board_keys.specs.Keys.{dealKeyCall, dealKeyLeftG, dealKeyLeftH, openKeyCall, openKeyLeft};
 ghost use Rattle.record_layouts.specs.Records.{writeSetupCall, writeSetupLeft, writeDealingCall, writeDealingLeft, writePairCall, writePairLeft};
 ghost use Rattle.record_layouts.specs.Records.{writeVerdictCall, writeVerdictLeft, writeShareCall, writeShareLeft};
 ghost use Rattle.record_layouts.specs.Records.{readSetupCall, readMatrixCall, readMatrixLeft, readDealingCall, readDealingLeftG, readDealingLeftH};
@@ -336,6 +338,22 @@ pub extern "C" fn mavdrusek_judge_set(
     }
 }
 
+// An opening's number; refusal 6 gives the lowest position with no row.
+fn opened(answer: Opened, position: &mut u16) -> u16
+    ensures { λ r. ⌜ r ≡ paperOpened answer .number ⌝ }
+    ensures { λ _. ⌜ now (position .exit) ≡ place 0 (paperOpened answer) (now (position .entry)) ⌝ }
+{
+    match answer {
+        Opened::Secrets => 0,
+        Opened::Undetermined(q) => {
+            *position = q;
+            6
+        }
+        Opened::Inconsistent => 7,
+        Opened::Refused(k) => k,
+    }
+}
+
 // Opens the shares of a set, by rising holder; refusal 6 gives the lowest position with no row.
 #[no_mangle]
 pub extern "C" fn mavdrusek_open(
@@ -353,15 +371,40 @@ pub extern "C" fn mavdrusek_open(
     ensures position { λ r. ⌜ now (position .exit) ≡ place 0 (openCall (setup p l e n (now (matrix .entry))) set (now (shares .entry)) (now (secrets .entry))) (now (position .entry)) ⌝ }
     ensures left { λ r. ⌜ now (secrets .exit) ≡ openLeft (setup p l e n (now (matrix .entry))) set (now (shares .entry)) (now (secrets .entry)) ⌝ }
 {
-    match opening::open(Params { p, l, e, n }, matrix, set, shares, secrets) {
-        Opened::Secrets => 0,
-        Opened::Undetermined(q) => {
-            *position = q;
-            6
-        }
-        Opened::Inconsistent => 7,
-        Opened::Refused(k) => k,
-    }
+    let answer = opening::open(Params { p, l, e, n }, matrix, set, shares, secrets);
+    opened(answer, position)
+}
+
+// BOARD KEYS
+// Every holder's part of a key of sixteen bytes.
+#[no_mangle]
+pub extern "C" fn mavdrusek_deal_key(
+    key: &[u8],
+    random: &[u16],
+    gs: &mut [u16],
+    hs: &mut [u16],
+) -> u16
+    ensures answer { λ r. ⌜ r ≡ dealKeyCall (now (key .entry)) (now (random .entry)) (now (gs .entry)) (now (hs .entry)) .number ⌝ }
+    ensures rows { λ r. ⌜ now (gs .exit) ≡ dealKeyLeftG (now (key .entry)) (now (random .entry)) (now (gs .entry)) (now (hs .entry)) ⌝ }
+    ensures columns { λ r. ⌜ now (hs .exit) ≡ dealKeyLeftH (now (key .entry)) (now (random .entry)) (now (gs .entry)) (now (hs .entry)) ⌝ }
+{
+    scheme::declined(board_keys::deal_key(key, random, gs, hs))
+}
+
+// Opens the shares of a set, by column and then by rising holder, into the sixteen bytes of a key; refusal 6 gives the lowest position with no row.
+#[no_mangle]
+pub extern "C" fn mavdrusek_open_key(
+    set: u32,
+    shares: &[u16],
+    key: &mut [u8],
+    position: &mut u16,
+) -> u16
+    ensures answer { λ r. ⌜ r ≡ openKeyCall set (now (shares .entry)) (now (key .entry)) .number ⌝ }
+    ensures position { λ r. ⌜ now (position .exit) ≡ place 0 (openKeyCall set (now (shares .entry)) (now (key .entry))) (now (position .entry)) ⌝ }
+    ensures left { λ r. ⌜ now (key .exit) ≡ openKeyLeft set (now (shares .entry)) (now (key .entry)) ⌝ }
+{
+    let answer = board_keys::open_key(set, shares, key);
+    opened(answer, position)
 }
 
 // WRITING RECORDS

@@ -228,6 +228,20 @@ fn opening_call(
     }
 }
 
+// BOARD KEYS
+fn deal_key(key: &[u8], random: &[u16], gs: &mut [u16], hs: &mut [u16]) {
+    print(c_api::mavdrusek_deal_key(key, random, gs, hs));
+    print_words(gs);
+    print_words(hs);
+}
+
+fn open_key(set: u32, shares: &[u16], key: &mut [u8]) {
+    let mut x: u16 = 7777;
+    let number = c_api::mavdrusek_open_key(set, shares, key, &mut x);
+    one(number, x);
+    print_bytes(key);
+}
+
 // RECORDS
 fn written(number: u16, out: &[u8]) {
     print(number);
@@ -449,6 +463,8 @@ fn call(
         0..=7 => dealing_call(k[0], p, l, e, n, x, a, b, c, d, f),
         12 => holder_file(bytes),
         24 => read_file(bytes, a),
+        26 => deal_key(bytes, a, b, c),
+        27 => open_key(set(x, y), a, bytes),
         13..=17 => writing_call(k[0], p, l, e, n, x, y, z, k[8], a, b, bytes),
         18..=23 => reading_call(k[0], p, l, e, n, bytes, a, b),
         _ => opening_call(k[0], p, l, e, n, set(x, y), z, a, b, c),

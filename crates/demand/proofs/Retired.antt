@@ -1,5 +1,5 @@
 -- Refusal 14 is retired: no table of refusals has a rule of that number, which is one computed test for each (never), and what stands behind a table is
--- an answer with number 0, an opening's own 6 or 7, or what is read from a file: 11, 13 or the fault of a record.
+-- an answer with number 0, an opening's own 6 or 7, a key's 16, or what is read from a file: 11, 13 or the fault of a record.
 -- Other: another number than the retired one
 -- Reads: what is read of a file is not refused by that number
 use mathlib.Core.Path.{_≡_, refl}
@@ -12,6 +12,7 @@ use lib.Dec.{T, eqb, ltb, leb}
 use lib.ListN.{length, drop}
 use Rattle.base.specs.Choice.{pick}
 use Rattle.base.specs.Rules.{Rule, refusal, Answer, refused, given, answerBy}
+use Rattle.base.specs.Matrix.{allBelow}
 use Rattle.base.proofs.Choice.{picked}
 use Rattle.base.proofs.Rules.{without, never}
 use Rattle.field.specs.Fields.{isField}
@@ -22,6 +23,8 @@ use Rattle.scheme.specs.Sets.{holds, determines, isPrivate}
 use Rattle.scheme.specs.Opening.{opening}
 use Rattle.scheme.specs.Calls.{pointsRules, dealRules, dealAllRules, pairValueRules, judgeRules, outcomeRules, rehearseRules, setRules, judgeSetRules, openRules, combineRules}
 use Rattle.scheme.proofs.Answering.{Given, given-given, given-number, judgement-given, fate-given, rehearse-given, decide-given, kind-given, OpeningIs, secrets, by-six, by-seven, opening-is}
+use Rattle.board_keys.specs.Keys.{keySetup, opened, keyOpening, openKeyRules}
+use Rattle.board_keys.proofs.Opened.{KeyOpeningIs, positions, no-row, no-vector, keyOpening-is}
 use Rattle.record_layouts.specs.Words.{wordAt}
 use Rattle.record_layouts.specs.Records.{markSU, pairAt, verdictAt, setupAt, setupSize, dealingSize, dealingAt, dealingG, dealingH, parts, writeRules, readRules, writeSetupRules, readSetupRules, readMatrixRules, readDealingRules, standingRules, dealingLayout, pairLayout, verdictLayout, shareLayout}
 use Rattle.file_records.specs.declared.Head.{Head}
@@ -61,6 +64,14 @@ opening-other S s xs = go (opening-is S s xs)
     go (secrets d b vs e) = rw e (is-other 0 refl)
     go (by-six d q e) = rw e (is-other 6 refl)
     go (by-seven d n e) = rw e (is-other 7 refl)
+
+key-other : (s : ℕ) (xs : List ℕ) → Other (keyOpening s xs .number)
+key-other s xs = go (keyOpening-is s xs)
+  where
+    go : KeyOpeningIs s xs → Other (keyOpening s xs .number)
+    go (positions d h e) = rw e (picked NotGiven (allBelow 256 (opened s xs)) (given (opened s xs)) (refused 16) (is-other 0 refl) (is-other 16 refl))
+    go (no-row d q e) = rw e (is-other 6 refl)
+    go (no-vector d n e) = rw e (is-other 7 refl)
 
 -- FILES
 fault-other : (h : Head) (t : List ℕ) (k : ℕ) → Other (faultAt h t k)
@@ -120,6 +131,8 @@ never-given =
       judge-set = λ S s q out. answers (judgeSetRules S s q out) _ tt (kind-given S (holds s) q);
       opening = λ S s xs out. answer-by (openRules S s xs out) _ tt (opening-other S s xs);
       combine = λ p cs xs. answers (combineRules p cs xs) _ tt (given-given _);
+      deal-key = λ key random gs hs. answers (dealAllRules keySetup key random gs hs) _ tt (given-given []);
+      open-key = λ s xs out. answer-by (openKeyRules s xs out) _ tt (key-other s xs);
       write-setup = λ S out. answers (writeSetupRules S (length out)) _ tt (given-given []);
       read-setup = λ s. answers (readSetupRules s) _ tt (given-given _);
       read-matrix = λ s m. answers (readMatrixRules s (length m)) _ tt (given-given []);

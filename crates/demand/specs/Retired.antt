@@ -10,6 +10,7 @@ use Rattle.base.specs.Rules.{Answer}
 use Rattle.field.specs.Fields.{fieldAnswer}
 use Rattle.scheme.specs.Setup.{Setup}
 use Rattle.scheme.specs.Calls.{pointsCall, dealCall, dealAllCall, pairValueCall, judgeCall, outcomeCall, rehearseCall, determinesCall, privateCall, judgeSetCall, openCall, combineCall}
+use Rattle.board_keys.specs.Keys.{dealKeyCall, openKeyCall}
 use Rattle.record_layouts.specs.declared.DealingRecord.{DealingRecord}
 use Rattle.record_layouts.specs.declared.PairRecord.{PairRecord}
 use Rattle.record_layouts.specs.declared.VerdictRecord.{VerdictRecord}
@@ -38,6 +39,9 @@ pub record NeverGiven : Type 0 where
   pub judge-set : (S : Setup) (s q : ℕ) (out : List ℕ) → NotGiven (judgeSetCall S s q out)
   pub opening : (S : Setup) (s : ℕ) (xs out : List ℕ) → NotGiven (openCall S s xs out)
   pub combine : (p : ℕ) (cs xs : List ℕ) → NotGiven (combineCall p cs xs)
+  -- board keys
+  pub deal-key : (key random gs hs : List ℕ) → NotGiven (dealKeyCall key random gs hs)
+  pub open-key : (s : ℕ) (xs out : List ℕ) → NotGiven (openKeyCall s xs out)
   -- records
   pub write-setup : (S : Setup) (out : List ℕ) → NotGiven (writeSetupCall S out)
   pub read-setup : (s : List ℕ) → NotGiven (readSetupCall s)

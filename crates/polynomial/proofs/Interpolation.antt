@@ -60,7 +60,7 @@ module _ (p : ℕ) (P : Prime p) (a : ℕ → ℕ) where
   -- LAGRANGE'S ROW
   module _ (d : ℕ) (far : Distinct p d a) where
     -- at a node the row is a unit vector
-    own-node : (j : ℕ) → j < d → Cong p (lagrange p a d (a j) j) 1
+    pub own-node : (j : ℕ) → j < d → Cong p (lagrange p a d (a j) j) 1
     unfolding lagrange
     own-node j l =
         let B = basis p d j a (a j) in

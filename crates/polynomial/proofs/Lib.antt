@@ -1,2 +1,3 @@
 pub mod Polynomial
 pub mod Interpolation
+pub mod Barycentric

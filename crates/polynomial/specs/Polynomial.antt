@@ -5,6 +5,7 @@
 -- basis: the product of x - a t over the t below n other than j: modulo p it is 0 at each of these nodes
 -- lagrange: entry j of the row that gives, from the values of a polynomial of degree below d at the nodes a 0, .., a (d - 1), its value at x;
 --   the quotient of the basis at x and at its own node
+-- prod: f 0 f 1 .. f (n - 1), the product of n numbers
 -- point: entry j of row i of the points matrix (document 01: "Points matrix (packed Shamir, after Franklin and Yung 1992): row i gives, from
 --   the values of a polynomial of degree below d at 0, 1, .., d − 1, its value at d + i.")
 use mathlib.Core.Path.{_≡_}
@@ -30,6 +31,10 @@ basis p (suc n) j a x = basis p n j a x * pick (eqb n j) 1 (minus p x (a n))
 
 unfoldable pub lagrange : ℕ → (ℕ → ℕ) → ℕ → ℕ → ℕ → ℕ
 lagrange p a d x j = inverseOf p (basis p d j a (a j) % p) * basis p d j a x
+
+unfoldable pub prod : ℕ → (ℕ → ℕ) → ℕ
+prod zero f = 1
+prod (suc n) f = prod n f * f n
 
 unfoldable pub point : ℕ → ℕ → ℕ → ℕ → ℕ
 point p d i j = lagrange p (λ t. t) d (d + i) j % p

@@ -8,3 +8,5 @@ pub mod Answering
 pub mod NoColumns
 pub mod Grows
 pub mod Cases
+pub mod PointSets
+pub mod Interpolated

@@ -3,6 +3,7 @@ pub mod Points
 pub mod Answers
 pub mod Dealing
 pub mod Sets
+pub mod PointSets
 pub mod Opening
 pub mod Calls
 pub mod NoColumns

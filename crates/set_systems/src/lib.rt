@@ -35,7 +35,7 @@ pub fn beyond(n: u16, set: u32) -> bool
 }
 
 // The members by rising holder, into the start of 32 lent entries; gives how many. What stands behind them is left as it was.
-fn walk(set: u32, out: &mut [u16]) -> usize
+pub fn walk(set: u32, out: &mut [u16]) -> usize
     requires { ⌜ length (now out) ≡ 32 ⌝ }
     ensures { λ r. ⌜ Walked set r (now (out .entry)) (now (out .exit)) ⌝ }
 {

@@ -1,0 +1,5 @@
+pub mod Setup
+pub mod Dealing
+pub mod Opened
+pub mod Answering
+pub mod Columns

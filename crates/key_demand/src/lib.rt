@@ -1,0 +1,1 @@
+// Theorems only; specs/Keys.antt states them.

@@ -1,0 +1,3 @@
+mod Parts
+mod Columns
+pub mod Table

@@ -1,0 +1,4 @@
+pub mod Lanes
+pub mod Curve
+pub mod Values
+pub mod Tables

@@ -1,0 +1,27 @@
+-- The members are at least seven rising depots, so the weights and what they give are those of the polynomials.
+use mathlib.Core.Path.{_≡_}
+use native.Mathlib.Omega.{arith}
+use Rattle.base.proofs.Matrix.{below-tab}
+use Rattle.key_values.proofs.Lanes.{fewer, lanes-below, columns-below}
+use Rattle.key_values.proofs.Values.{interpolates}
+use Rattle.key_values.proofs.interpolate_by.Statement.{statement}
+use Rattle.key_values.proofs.interpolate_by.Tie as tie
+
+weigh-requires : tie.Need-weigh-requires
+weigh-requires c κs = let s = c .before .before in (fewer (s .pre .1 .rising) (s .pre .1 .seven), s .pre .0 .below)
+
+scale-requires : tie.Need-scale-requires
+scale-requires c κs = let s = c .before .before .before .before .before in ((s .pre .1 .seven, s .pre .1 .sixteen, s .pre .1 .size), (fewer (s .pre .1 .rising) (s .pre .1 .seven), (s .pre .1 .small, lanes-below _ _ (c .before .before .weigh .ensures .0))))
+
+read-requires : tie.Need-read-requires
+read-requires c κs = let s = c .before .before .before .before .before .before .before in (columns-below _ _ (c .before .scale .ensures), (s .pre .0 .small, lanes-below _ _ (c .before .before .before .before .weigh .ensures .1)))
+
+all-agree-requires : tie.Need-all-agree-requires
+all-agree-requires c κs = let s = c .before .before .before .before .before .before .before .before .before in ((s .pre .1 .seven, s .pre .1 .sixteen, s .pre .1 .size), (s .pre .1 .rising, (s .pre .0 .below, (lanes-below _ _ (c .before .before .before .before .before .before .weigh .ensures .0), (columns-below _ _ (c .before .before .before .scale .ensures), s .pre .1 .small)))))
+
+returns : tie.Need-returns
+returns c = let s = c .before .before .before .before .before .before .before .before .before .before in interpolates (s .pre .0) (s .pre .1) (c .before .before .before .before .before .before .before .weigh .ensures .0) (c .before .before .before .before .before .before .before .weigh .ensures .1) (c .before .before .before .before .scale .ensures) (c .before .before .read .ensures) (c .all-agree .ensures)
+
+pub interpolate-by-spec : {M : Type 1} → statement M
+interpolate-by-spec =
+    tie.close (tie.spec weigh-requires scale-requires read-requires all-agree-requires returns)

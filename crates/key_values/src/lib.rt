@@ -1,0 +1,320 @@
+// What the shares of a board key give (p 257, ℓ 4, e 3, n 16, points matrix), from inputs that are in order. A column's shares of the first seven members are
+// the values at their points of one polynomial of degree below 7: its values at 0 to 3 are the positions, and each further share is held to its value. Both come by
+// Lagrange's weights in the barycentric form, worked out once for all four columns, with a depot in each lane.
+ghost use mathlib.Core.Path.{_≡_};
+ghost use mathlib.Core.List.{[]};
+ghost use Prim.Native.Nat.{_+_, _*_, _%_, _^_, _<_, _≤_};
+ghost use lib.ListN.{length, getD};
+ghost use Rattle.base.specs.Fill.{tab};
+ghost use Rattle.base.specs.Matrix.{flat, Below};
+ghost use Rattle.field.specs.Dot.{at, dot};
+ghost use Rattle.polynomial.specs.Polynomial.{prod};
+ghost use Rattle.key_values.specs.Inner.{Depots, Columns, Tables, Ready, away, behind, placedAt, scaledAt, shown, readAt, expected, agrees, Agreed, AllAgreed, depots, Interpolates};
+
+// 1 / (i - j) at 15 + i - j, for depots i and j; 1 at 15.
+const INVERSES: [u16; 31] = [
+    137, 55, 79, 107, 70, 77, 57, 32, 110, 214, 154, 64, 171, 128, 256, 1,
+    1, 129, 86, 193, 103, 43, 147, 225, 200, 180, 187, 150, 178, 202, 120,
+];
+
+// 1 / (q - 7 - i) at 16 q + i, for position q and depot i, whose point is 7 + i.
+const POSITIONS: [u16; 64] = [
+    110, 32, 57, 77, 70, 107, 79, 55, 137, 16, 136, 157, 27, 167, 208, 35,
+    214, 110, 32, 57, 77, 70, 107, 79, 55, 137, 16, 136, 157, 27, 167, 208,
+    154, 214, 110, 32, 57, 77, 70, 107, 79, 55, 137, 16, 136, 157, 27, 167,
+    64, 154, 214, 110, 32, 57, 77, 70, 107, 79, 55, 137, 16, 136, 157, 27,
+];
+
+// WEIGHTS
+// 1 / (i - j) for every depot i, 1 for j itself.
+fn away_from(inverses: &[u16; 31], j: usize) -> [u16; 16]
+    requires { ⌜ j < 16 ⌝ }
+    ensures { λ r. ⌜ r ≡ tab 16 (away (now (inverses .entry)) j) ⌝ }
+{
+    let from = 15 - j;
+    let mut r = [0u16; 16];
+    let mut i = 0;
+    while i < 16 {
+        r[i] = inverses[from + i];
+        i += 1;
+    }
+    r
+}
+
+// q - 7 - j modulo 257 for the positions q, once for each column.
+fn behind(j: u16) -> [u16; 16]
+    requires { ⌜ j < 16 ⌝ }
+    ensures { λ r. ⌜ r ≡ tab 16 (behind j) ⌝ }
+{
+    let mut r = [0u16; 16];
+    let mut c = 0;
+    while c < 16 {
+        r[c] = 250 + ((c % 4) as u16) - j;
+        c += 1;
+    }
+    r
+}
+
+// inverses: for every depot i the product of 1 / (i - j) over the first seven members j other than i; products: for every position q, once for each
+// column, the product of q - 7 - j.
+struct Weights {
+    inverses: [u16; 16],
+    products: [u16; 16],
+}
+
+fn weigh(inverses: &[u16; 31], members: &[u16]) -> Weights
+    requires { ⌜ Depots 7 (now members) ⌝ }
+    requires { ⌜ Below 257 (now inverses) ⌝ }
+    ensures { λ r. ⌜ r .inverses ≡ tab 16 (λ i. prod 7 (λ a. away (now (inverses .entry)) (at (now (members .entry)) a) i) % 257) ⌝ }
+    ensures { λ r. ⌜ r .products ≡ tab 16 (λ c. prod 7 (λ a. behind (at (now (members .entry)) a) c) % 257) ⌝ }
+{
+    let mut x = [1u16; 16];
+    let mut y = [1u16; 16];
+    let mut a = 0;
+    while a < 7 {
+        let j = members[a];
+        let next_x = lanes::times16(x, away_from(inverses, j as usize));
+        let next_y = lanes::times16(y, behind(j));
+        x = next_x;
+        y = next_y;
+        a += 1;
+    }
+    Weights {
+        inverses: x,
+        products: y,
+    }
+}
+
+// SHARES
+// The first seven shares of the column that starts at `start`, each at its depot's place.
+fn placed(shares: &[u16], start: usize, members: &[u16]) -> [u16; 16]
+    requires { ⌜ start + 7 ≤ length (now shares) ⌝ }
+    requires { ⌜ Depots 7 (now members) ⌝ }
+    ensures { λ r. ⌜ r ≡ placedAt (now (members .entry)) (now (shares .entry)) start ⌝ }
+{
+    let mut r = [0u16; 16];
+    let mut a = 0;
+    while a < 7 {
+        let j = members[a] as usize;
+        r[j] = shares[start + a];
+        a += 1;
+    }
+    r
+}
+
+// So for the four columns of k shares.
+fn place(shares: &[u16], k: usize, members: &[u16]) -> [[u16; 16]; 4]
+    requires { ⌜ (7 ≤ k) × (k ≤ 16) × (length (now shares) ≡ 4 * k) ⌝ }
+    requires { ⌜ Depots 7 (now members) ⌝ }
+    ensures { λ r. ⌜ r ≡ tab 4 (λ b. placedAt (now (members .entry)) (now (shares .entry)) (b * k)) ⌝ }
+{
+    let mut r = [[0u16; 16]; 4];
+    let mut b = 0;
+    while b < 4 {
+        r[b] = placed(shares, b * k, members);
+        b += 1;
+    }
+    r
+}
+
+// The four columns' shares times the depots' weights. All are placed before any is multiplied: the processor waits for a store that it reads in wider parts.
+fn scale(shares: &[u16], k: usize, members: &[u16], weights: [u16; 16]) -> [[u16; 16]; 4]
+    requires { ⌜ (7 ≤ k) × (k ≤ 16) × (length (now shares) ≡ 4 * k) ⌝ }
+    requires { ⌜ Depots 7 (now members) ⌝ }
+    requires { ⌜ Below 257 (now shares) ⌝ }
+    requires { ⌜ Below 257 weights ⌝ }
+    ensures { λ r. ⌜ r ≡ tab 4 (scaledAt (now (members .entry)) (now (shares .entry)) k weights) ⌝ }
+{
+    let placed = place(shares, k, members);
+    let mut r = [[0u16; 16]; 4];
+    let mut b = 0;
+    while b < 4 {
+        r[b] = lanes::times16(placed[b], weights);
+        b += 1;
+    }
+    r
+}
+
+// POSITIONS
+// A product is added. The compiler sees that the factors are small.
+fn plus(sum: u32, x: u16, y: u16) -> u32
+    requires { ⌜ (sum < 1048577) × (x < 257) × (y < 257) ⌝ }
+    ensures { λ r. ⌜ r ≡ sum + x * y ⌝ }
+{
+    sum + ((x % 512) as u32) * ((y % 512) as u32)
+}
+
+struct Four {
+    a: u32,
+    b: u32,
+    c: u32,
+    d: u32,
+}
+
+// A column's products with the four rows of v.
+fn dots(scaled: [u16; 16], v: &[u16; 64]) -> Four
+    requires { ⌜ Below 257 scaled ⌝ }
+    requires { ⌜ Below 257 (now v) ⌝ }
+    ensures { λ r. ⌜ r .a ≡ shown scaled (now (v .entry)) 0 ⌝ }
+    ensures { λ r. ⌜ r .b ≡ shown scaled (now (v .entry)) 1 ⌝ }
+    ensures { λ r. ⌜ r .c ≡ shown scaled (now (v .entry)) 2 ⌝ }
+    ensures { λ r. ⌜ r .d ≡ shown scaled (now (v .entry)) 3 ⌝ }
+{
+    let mut a: u32 = 0;
+    let mut b: u32 = 0;
+    let mut c: u32 = 0;
+    let mut d: u32 = 0;
+    let mut i = 0;
+    while i < 16 {
+        let x = scaled[i];
+        a = plus(a, x, v[i]);
+        b = plus(b, x, v[16 + i]);
+        c = plus(c, x, v[32 + i]);
+        d = plus(d, x, v[48 + i]);
+        i += 1;
+    }
+    Four { a, b, c, d }
+}
+
+// So for the four columns.
+fn sums(scaled: &[[u16; 16]; 4], v: &[u16; 64]) -> [u32; 16]
+    requires { ⌜ Columns (now scaled) ⌝ }
+    requires { ⌜ Below 257 (now v) ⌝ }
+    ensures { λ r. ⌜ r ≡ tab 16 (flat 4 (λ b. shown (getD (now (scaled .entry)) b []) (now (v .entry)))) ⌝ }
+{
+    let a = dots(scaled[0], v);
+    let b = dots(scaled[1], v);
+    let c = dots(scaled[2], v);
+    let d = dots(scaled[3], v);
+    [
+        a.a, a.b, a.c, a.d, b.a, b.b, b.c, b.d, c.a, c.b, c.c, c.d, d.a, d.b, d.c, d.d,
+    ]
+}
+
+// The sixteen positions.
+fn read(scaled: &[[u16; 16]; 4], v: &[u16; 64], products: [u16; 16]) -> [u16; 16]
+    requires { ⌜ Columns (now scaled) ⌝ }
+    requires { ⌜ Below 257 (now v) ⌝ }
+    requires { ⌜ Below 257 products ⌝ }
+    ensures { λ r. ⌜ r ≡ tab 16 (readAt (now (scaled .entry)) (now (v .entry)) products) ⌝ }
+{
+    lanes::times16(lanes::folded16(sums(scaled, v)), products)
+}
+
+// FURTHER SHARES
+// What every depot's share times its weight is, where it lies on the polynomial of the first seven members, whose shares times their weights `scaled` has.
+fn expected(inverses: &[u16; 31], members: &[u16], scaled: [u16; 16]) -> [u16; 16]
+    requires { ⌜ Depots 7 (now members) ⌝ }
+    requires { ⌜ Below 257 (now inverses) ⌝ }
+    requires { ⌜ Below 257 scaled ⌝ }
+    ensures { λ r. ⌜ r ≡ tab 16 (expected (now (inverses .entry)) (now (members .entry)) scaled) ⌝ }
+{
+    let mut sums = [0u32; 16];
+    let mut a = 0;
+    while a < 7 {
+        let j = members[a] as usize;
+        let next = lanes::add16(sums, scaled[j], away_from(inverses, j));
+        sums = next;
+        a += 1;
+    }
+    lanes::folded16(sums)
+}
+
+// Whether the shares from the eighth on of the column that starts at `start`, times their depots' weights, are those expected.
+fn agree(
+    expected: [u16; 16],
+    weights: [u16; 16],
+    shares: &[u16],
+    start: usize,
+    members: &[u16],
+    k: usize,
+) -> bool
+    requires { ⌜ (7 ≤ k) × (k ≤ 16) × (start ≤ 48) × (start + k ≤ length (now shares)) ⌝ }
+    requires { ⌜ Depots k (now members) ⌝ }
+    requires { ⌜ Below 257 (now shares) ⌝ }
+    requires { ⌜ Below 257 weights ⌝ }
+    ensures { λ r. ⌜ Agreed k (agrees expected weights (now (shares .entry)) start (now (members .entry))) r ⌝ }
+{
+    let mut x = 7;
+    while x < k {
+        let i = members[x] as usize;
+        if lanes::times(shares[start + x], weights[i]) != expected[i] {
+            return false;
+        }
+        x += 1;
+    }
+    true
+}
+
+// So for the four columns.
+fn all_agree(
+    inverses: &[u16; 31],
+    weights: [u16; 16],
+    scaled: &[[u16; 16]; 4],
+    shares: &[u16],
+    members: &[u16],
+    k: usize,
+) -> bool
+    requires { ⌜ (7 ≤ k) × (k ≤ 16) × (length (now shares) ≡ 4 * k) ⌝ }
+    requires { ⌜ Depots k (now members) ⌝ }
+    requires { ⌜ Below 257 (now inverses) ⌝ }
+    requires { ⌜ Below 257 weights ⌝ }
+    requires { ⌜ Columns (now scaled) ⌝ }
+    requires { ⌜ Below 257 (now shares) ⌝ }
+    ensures { λ r. ⌜ AllAgreed k (λ b. agrees (tab 16 (expected (now (inverses .entry)) (now (members .entry)) (getD (now (scaled .entry)) b []))) weights (now (shares .entry)) (b * k) (now (members .entry))) r ⌝ }
+{
+    if k == 7 {
+        return true;
+    }
+    let mut b = 0;
+    while b < 4 {
+        let wanted = expected(inverses, members, scaled[b]);
+        if !agree(wanted, weights, shares, b * k, members, k) {
+            return false;
+        }
+        b += 1;
+    }
+    true
+}
+
+// THE FOUR COLUMNS
+// The sixteen positions, and whether every share lies on its column's polynomial.
+pub struct Interpolated {
+    pub consistent: bool,
+    pub values: [u16; 16],
+}
+
+// From the tables and the members, of whom there are at least seven.
+fn interpolate_by(
+    inverses: &[u16; 31],
+    positions: &[u16; 64],
+    members: &[u16],
+    shares: &[u16],
+) -> Interpolated
+    requires { ⌜ Tables (now inverses) (now positions) ⌝ }
+    requires { ⌜ Ready (now members) (now shares) ⌝ }
+    ensures { λ r. ⌜ Interpolates (now (members .entry)) (now (shares .entry)) (r .consistent) (r .values) ⌝ }
+{
+    let k = members.len();
+    let w = weigh(inverses, members);
+    let weights = w.inverses;
+    let products = w.products;
+    let scaled = scale(shares, k, members, weights);
+    let values = read(&scaled, positions, products);
+    let consistent = all_agree(inverses, weights, &scaled, shares, members, k);
+    Interpolated { consistent, values }
+}
+
+// What the shares of a set give, of at least seven of the sixteen depots.
+pub fn interpolate(set: u32, shares: &[u16]) -> Interpolated
+    requires { ⌜ set < 2 ^ 16 ⌝ }
+    requires { ⌜ (7 ≤ length (depots set)) × (length (now shares) ≡ 4 * length (depots set)) ⌝ }
+    requires { ⌜ Below 257 (now shares) ⌝ }
+    ensures { λ r. ⌜ Interpolates (depots set) (now (shares .entry)) (r .consistent) (r .values) ⌝ }
+{
+    let inverses = INVERSES;
+    let positions = POSITIONS;
+    let mut members = [0u16; 32];
+    let k = set_systems::walk(set, &mut members);
+    interpolate_by(&inverses, &positions, &members[..k], shares)
+}
