@@ -10,6 +10,101 @@ ghost use Rattle.scheme.specs.Points.{pointsMatrix};
 ghost use Rattle.key_entries.specs.Inner.{Lent};
 ghost use Rattle.key_parts.specs.Inner.{Halves, matrixEntry, Put, partsH, partsG};
 
+// The product of a row or a column x of F with every depot's row of the matrix.
+fn products(columns: &[[u16; 32]; 7], x: [u16; 7]) -> [u16; 16]
+    requires { ⌜ Halves (now columns) ⌝ }
+    requires { ⌜ Below 257 x ⌝ }
+    ensures { λ r. ⌜ r ≡ tab 16 (λ i. dot 7 (matrixEntry (now (columns .entry)) i) (at x) % 257) ⌝ }
+{
+    let mut sums = [0u16; 32];
+    let mut k = 0;
+    while k < 7 {
+        let next = lanes::add32(sums, x[k], columns[k]);
+        sums = next;
+        k += 1;
+    }
+    lanes::joined16(sums)
+}
+
+// Entry c of all sixteen parts.
+fn put(out: &mut [u16], c: usize, entries: [u16; 16])
+    requires { ⌜ (length (now out) ≡ 112) × (c < 7) ⌝ }
+    ensures { λ _. ⌜ Put 16 c entries (now (out .entry)) (now (out .exit)) ⌝ }
+{
+    let mut i = 0;
+    while i < 16 {
+        out[7 * i + c] = entries[i];
+        i += 1;
+    }
+}
+
+// Every depot's h = F m_i.
+fn write_h(columns: &[[u16; 32]; 7], key: &[u8], random: &[u16], hs: &mut [u16])
+    requires { ⌜ Halves (now columns) ⌝ }
+    requires { ⌜ Lent (now key) (now random) ⌝ }
+    requires { ⌜ length (now hs) ≡ 112 ⌝ }
+    ensures { λ _. ⌜ now (hs .exit) ≡ partsH (matrixEntry (now (columns .entry))) (now (key .entry)) (now (random .entry)) ⌝ }
+{
+    let mut c = 0;
+    while c < 4 {
+        put(
+            hs,
+            c,
+            products(columns, key_entries::key_row(key, random, c)),
+        );
+        c += 1;
+    }
+    let mut c = 0;
+    while c < 3 {
+        put(
+            hs,
+            4 + c,
+            products(columns, key_entries::random_row(random, c)),
+        );
+        c += 1;
+    }
+}
+
+// Every depot's g = m_i F.
+fn write_g(columns: &[[u16; 32]; 7], key: &[u8], random: &[u16], gs: &mut [u16])
+    requires { ⌜ Halves (now columns) ⌝ }
+    requires { ⌜ Lent (now key) (now random) ⌝ }
+    requires { ⌜ length (now gs) ≡ 112 ⌝ }
+    ensures { λ _. ⌜ now (gs .exit) ≡ partsG (matrixEntry (now (columns .entry))) (now (key .entry)) (now (random .entry)) ⌝ }
+{
+    let mut c = 0;
+    while c < 4 {
+        put(
+            gs,
+            c,
+            products(columns, key_entries::key_column(key, random, c)),
+        );
+        c += 1;
+    }
+    let mut c = 0;
+    while c < 3 {
+        put(
+            gs,
+            4 + c,
+            products(columns, key_entries::random_column(random, c)),
+        );
+        c += 1;
+    }
+}
+
+// Every depot's part. Each h is written before any g.
+pub fn write_parts(key: &[u8], random: &[u16], gs: &mut [u16], hs: &mut [u16])
+    requires { ⌜ Lent (now key) (now random) ⌝ }
+    requires { ⌜ (length (now gs) ≡ 112) × (length (now hs) ≡ 112) ⌝ }
+    ensures { λ _. ⌜ now (gs .exit) ≡ partsG (entry 7 (pointsMatrix 257 7 16)) (now (key .entry)) (now (random .entry)) ⌝ }
+    ensures { λ _. ⌜ now (hs .exit) ≡ partsH (entry 7 (pointsMatrix 257 7 16)) (now (key .entry)) (now (random .entry)) ⌝ }
+{
+    let columns = COLUMNS;
+    write_h(&columns, key, random, hs);
+    write_g(&columns, key, random, gs);
+}
+
+// THE MATRIX
 // The points matrix by columns, an entry for each depot: the remainders by 16 in the first 16 lanes, the quotients by 16 in the last.
 const COLUMNS: [[u16; 32]; 7] = [
     [
@@ -251,97 +346,3 @@ const COLUMNS: [[u16; 32]; 7] = [
         5,
     ],
 ];
-
-// The product of a row or a column x of F with every depot's row of the matrix.
-fn products(columns: &[[u16; 32]; 7], x: [u16; 7]) -> [u16; 16]
-    requires { ⌜ Halves (now columns) ⌝ }
-    requires { ⌜ Below 257 x ⌝ }
-    ensures { λ r. ⌜ r ≡ tab 16 (λ i. dot 7 (matrixEntry (now (columns .entry)) i) (at x) % 257) ⌝ }
-{
-    let mut sums = [0u16; 32];
-    let mut k = 0;
-    while k < 7 {
-        let next = lanes::add32(sums, x[k], columns[k]);
-        sums = next;
-        k += 1;
-    }
-    lanes::joined16(sums)
-}
-
-// Entry c of all sixteen parts.
-fn put(out: &mut [u16], c: usize, entries: [u16; 16])
-    requires { ⌜ (length (now out) ≡ 112) × (c < 7) ⌝ }
-    ensures { λ _. ⌜ Put 16 c entries (now (out .entry)) (now (out .exit)) ⌝ }
-{
-    let mut i = 0;
-    while i < 16 {
-        out[7 * i + c] = entries[i];
-        i += 1;
-    }
-}
-
-// Every depot's h = F m_i.
-fn write_h(columns: &[[u16; 32]; 7], key: &[u8], random: &[u16], hs: &mut [u16])
-    requires { ⌜ Halves (now columns) ⌝ }
-    requires { ⌜ Lent (now key) (now random) ⌝ }
-    requires { ⌜ length (now hs) ≡ 112 ⌝ }
-    ensures { λ _. ⌜ now (hs .exit) ≡ partsH (matrixEntry (now (columns .entry))) (now (key .entry)) (now (random .entry)) ⌝ }
-{
-    let mut c = 0;
-    while c < 4 {
-        put(
-            hs,
-            c,
-            products(columns, key_entries::key_row(key, random, c)),
-        );
-        c += 1;
-    }
-    let mut c = 0;
-    while c < 3 {
-        put(
-            hs,
-            4 + c,
-            products(columns, key_entries::random_row(random, c)),
-        );
-        c += 1;
-    }
-}
-
-// Every depot's g = m_i F.
-fn write_g(columns: &[[u16; 32]; 7], key: &[u8], random: &[u16], gs: &mut [u16])
-    requires { ⌜ Halves (now columns) ⌝ }
-    requires { ⌜ Lent (now key) (now random) ⌝ }
-    requires { ⌜ length (now gs) ≡ 112 ⌝ }
-    ensures { λ _. ⌜ now (gs .exit) ≡ partsG (matrixEntry (now (columns .entry))) (now (key .entry)) (now (random .entry)) ⌝ }
-{
-    let mut c = 0;
-    while c < 4 {
-        put(
-            gs,
-            c,
-            products(columns, key_entries::key_column(key, random, c)),
-        );
-        c += 1;
-    }
-    let mut c = 0;
-    while c < 3 {
-        put(
-            gs,
-            4 + c,
-            products(columns, key_entries::random_column(random, c)),
-        );
-        c += 1;
-    }
-}
-
-// Every depot's part. Each h is written before any g.
-pub fn write_parts(key: &[u8], random: &[u16], gs: &mut [u16], hs: &mut [u16])
-    requires { ⌜ Lent (now key) (now random) ⌝ }
-    requires { ⌜ (length (now gs) ≡ 112) × (length (now hs) ≡ 112) ⌝ }
-    ensures { λ _. ⌜ now (gs .exit) ≡ partsG (entry 7 (pointsMatrix 257 7 16)) (now (key .entry)) (now (random .entry)) ⌝ }
-    ensures { λ _. ⌜ now (hs .exit) ≡ partsH (entry 7 (pointsMatrix 257 7 16)) (now (key .entry)) (now (random .entry)) ⌝ }
-{
-    let columns = COLUMNS;
-    write_h(&columns, key, random, hs);
-    write_g(&columns, key, random, gs);
-}

@@ -20,8 +20,9 @@ use Rattle.polynomial.specs.Polynomial.{Poly, minus, basis, lagrange, prod}
 use Rattle.polynomial.proofs.Polynomial.{Distinct}
 use Rattle.polynomial.proofs.Interpolation.{differ, lagrange-poly, lagrange-node}
 use Rattle.polynomial.proofs.Barycentric.{whole, inverse-whole, inverse-basis, barycentric}
-use Rattle.key_values.specs.Inner.{Depots, Tables, Ready, away, behind, spread, curve}
-use Rattle.key_values.proofs.Lanes.{apart, spread-at}
+use Rattle.key_weights.specs.Inner.{Depots, away, behind, spread}
+use Rattle.key_values.specs.Inner.{Tables, Ready, curve}
+use Rattle.key_weights.proofs.Lanes.{apart, spread-at}
 
 abbrev pub node : List ℕ → ℕ → ℕ
 node ms a = 7 + at ms a

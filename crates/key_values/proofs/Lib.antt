@@ -1,4 +1,4 @@
-pub mod Lanes
+pub mod Laws
 pub mod Curve
 pub mod Values
 pub mod Tables

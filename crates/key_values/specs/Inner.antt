@@ -1,10 +1,6 @@
 -- Contracts of inner functions: the polynomials through the first seven shares of each column, and the weights that give their values. Depot i's point
 -- is 7 + i; ms are the members by rising depot, xs the shares, column by column.
--- Depots: the first k of ms are depots, rising
--- away: 1 / (i - j) from the table of inverses
--- behind: q - 7 - j modulo 257, q the position of lane c
--- spread: the first n of x, each at its depot's place
--- placedAt, scaledAt: the lanes of a column's first seven shares, and of these times the weights
+-- Columns: the columns hold field elements
 -- shown: the product of a column's lanes with row q of v
 -- readAt: position c % 4 of column c / 4
 -- expected: depot i's share times its weight, where it lies on the polynomial of the first seven; t has theirs
@@ -21,38 +17,15 @@ use mathlib.Core.List.{List, []}
 use Prim.Native.Nat.{ℕ, _+_, _-_, _*_, _/_, _%_, _<_, _≤_}
 use lib.Dec.{eqb}
 use lib.ListN.{length, getD}
-use Rattle.base.specs.Sum.{unit}
 use Rattle.base.specs.Fill.{tab}
 use Rattle.base.specs.Matrix.{entry, flat, Below}
 use Rattle.field.specs.Dot.{at, dot}
 use Rattle.polynomial.specs.Polynomial.{lagrange}
 use Rattle.scheme.specs.Sets.{holds, members}
+use Rattle.key_weights.specs.Inner.{Depots, away}
 
-pub record Depots (k : ℕ) (ms : List ℕ) : Type 0 where
-  pub fits : k ≤ length ms
-  pub below : (a : ℕ) → a < k → at ms a < 16
-  pub rise : (a b : ℕ) → a < b → b < k → at ms a < at ms b
-
--- the columns hold field elements
 abbrev pub Columns : List (List ℕ) → Type 0
 Columns t = (b : ℕ) → Below 257 (getD t b [])
-
--- WEIGHTS
-abbrev pub away : List ℕ → ℕ → ℕ → ℕ
-away t j i = at t (15 - j + i)
-
-abbrev pub behind : ℕ → ℕ → ℕ
-behind j c = 250 + c % 4 - j
-
--- SHARES
-unfoldable pub spread : (ms : List ℕ) → ℕ → (ℕ → ℕ) → ℕ → ℕ
-spread ms n x i = dot n (λ a. unit (at ms a) i) x
-
-abbrev pub placedAt : (ms xs : List ℕ) → ℕ → List ℕ
-placedAt ms xs start = tab 16 (spread ms 7 (λ a. at xs (start + a)))
-
-abbrev pub scaledAt : (ms xs : List ℕ) (k : ℕ) (weights : List ℕ) → ℕ → List ℕ
-scaledAt ms xs k weights b = tab 16 (λ i. spread ms 7 (λ a. at xs (b * k + a)) i * at weights i % 257)
 
 -- POSITIONS
 abbrev pub shown : (t v : List ℕ) → ℕ → ℕ

@@ -8,132 +8,8 @@ ghost use lib.ListN.{length, getD};
 ghost use Rattle.base.specs.Fill.{tab};
 ghost use Rattle.base.specs.Matrix.{flat, Below};
 ghost use Rattle.field.specs.Dot.{at, dot};
-ghost use Rattle.polynomial.specs.Polynomial.{prod};
-ghost use Rattle.key_values.specs.Inner.{Depots, Columns, Tables, Ready, away, behind, placedAt, scaledAt, shown, readAt, expected, agrees, Agreed, AllAgreed, depots, Interpolates};
-
-// 1 / (i - j) at 15 + i - j, for depots i and j; 1 at 15.
-const INVERSES: [u16; 31] = [
-    137, 55, 79, 107, 70, 77, 57, 32, 110, 214, 154, 64, 171, 128, 256, 1,
-    1, 129, 86, 193, 103, 43, 147, 225, 200, 180, 187, 150, 178, 202, 120,
-];
-
-// 1 / (q - 7 - i) at 16 q + i, for position q and depot i, whose point is 7 + i.
-const POSITIONS: [u16; 64] = [
-    110, 32, 57, 77, 70, 107, 79, 55, 137, 16, 136, 157, 27, 167, 208, 35,
-    214, 110, 32, 57, 77, 70, 107, 79, 55, 137, 16, 136, 157, 27, 167, 208,
-    154, 214, 110, 32, 57, 77, 70, 107, 79, 55, 137, 16, 136, 157, 27, 167,
-    64, 154, 214, 110, 32, 57, 77, 70, 107, 79, 55, 137, 16, 136, 157, 27,
-];
-
-// WEIGHTS
-// 1 / (i - j) for every depot i, 1 for j itself.
-fn away_from(inverses: &[u16; 31], j: usize) -> [u16; 16]
-    requires { ⌜ j < 16 ⌝ }
-    ensures { λ r. ⌜ r ≡ tab 16 (away (now (inverses .entry)) j) ⌝ }
-{
-    let from = 15 - j;
-    let mut r = [0u16; 16];
-    let mut i = 0;
-    while i < 16 {
-        r[i] = inverses[from + i];
-        i += 1;
-    }
-    r
-}
-
-// q - 7 - j modulo 257 for the positions q, once for each column.
-fn behind(j: u16) -> [u16; 16]
-    requires { ⌜ j < 16 ⌝ }
-    ensures { λ r. ⌜ r ≡ tab 16 (behind j) ⌝ }
-{
-    let mut r = [0u16; 16];
-    let mut c = 0;
-    while c < 16 {
-        r[c] = 250 + ((c % 4) as u16) - j;
-        c += 1;
-    }
-    r
-}
-
-// inverses: for every depot i the product of 1 / (i - j) over the first seven members j other than i; products: for every position q, once for each
-// column, the product of q - 7 - j.
-struct Weights {
-    inverses: [u16; 16],
-    products: [u16; 16],
-}
-
-fn weigh(inverses: &[u16; 31], members: &[u16]) -> Weights
-    requires { ⌜ Depots 7 (now members) ⌝ }
-    requires { ⌜ Below 257 (now inverses) ⌝ }
-    ensures { λ r. ⌜ r .inverses ≡ tab 16 (λ i. prod 7 (λ a. away (now (inverses .entry)) (at (now (members .entry)) a) i) % 257) ⌝ }
-    ensures { λ r. ⌜ r .products ≡ tab 16 (λ c. prod 7 (λ a. behind (at (now (members .entry)) a) c) % 257) ⌝ }
-{
-    let mut x = [1u16; 16];
-    let mut y = [1u16; 16];
-    let mut a = 0;
-    while a < 7 {
-        let j = members[a];
-        let next_x = lanes::times16(x, away_from(inverses, j as usize));
-        let next_y = lanes::times16(y, behind(j));
-        x = next_x;
-        y = next_y;
-        a += 1;
-    }
-    Weights {
-        inverses: x,
-        products: y,
-    }
-}
-
-// SHARES
-// The first seven shares of the column that starts at `start`, each at its depot's place.
-fn placed(shares: &[u16], start: usize, members: &[u16]) -> [u16; 16]
-    requires { ⌜ start + 7 ≤ length (now shares) ⌝ }
-    requires { ⌜ Depots 7 (now members) ⌝ }
-    ensures { λ r. ⌜ r ≡ placedAt (now (members .entry)) (now (shares .entry)) start ⌝ }
-{
-    let mut r = [0u16; 16];
-    let mut a = 0;
-    while a < 7 {
-        let j = members[a] as usize;
-        r[j] = shares[start + a];
-        a += 1;
-    }
-    r
-}
-
-// So for the four columns of k shares.
-fn place(shares: &[u16], k: usize, members: &[u16]) -> [[u16; 16]; 4]
-    requires { ⌜ (7 ≤ k) × (k ≤ 16) × (length (now shares) ≡ 4 * k) ⌝ }
-    requires { ⌜ Depots 7 (now members) ⌝ }
-    ensures { λ r. ⌜ r ≡ tab 4 (λ b. placedAt (now (members .entry)) (now (shares .entry)) (b * k)) ⌝ }
-{
-    let mut r = [[0u16; 16]; 4];
-    let mut b = 0;
-    while b < 4 {
-        r[b] = placed(shares, b * k, members);
-        b += 1;
-    }
-    r
-}
-
-// The four columns' shares times the depots' weights. All are placed before any is multiplied: the processor waits for a store that it reads in wider parts.
-fn scale(shares: &[u16], k: usize, members: &[u16], weights: [u16; 16]) -> [[u16; 16]; 4]
-    requires { ⌜ (7 ≤ k) × (k ≤ 16) × (length (now shares) ≡ 4 * k) ⌝ }
-    requires { ⌜ Depots 7 (now members) ⌝ }
-    requires { ⌜ Below 257 (now shares) ⌝ }
-    requires { ⌜ Below 257 weights ⌝ }
-    ensures { λ r. ⌜ r ≡ tab 4 (scaledAt (now (members .entry)) (now (shares .entry)) k weights) ⌝ }
-{
-    let placed = place(shares, k, members);
-    let mut r = [[0u16; 16]; 4];
-    let mut b = 0;
-    while b < 4 {
-        r[b] = lanes::times16(placed[b], weights);
-        b += 1;
-    }
-    r
-}
+ghost use Rattle.key_weights.specs.Inner.{Depots};
+ghost use Rattle.key_values.specs.Inner.{Columns, Tables, Ready, shown, readAt, expected, agrees, Agreed, AllAgreed, depots, Interpolates};
 
 // POSITIONS
 // A product is added. The compiler sees that the factors are small.
@@ -187,7 +63,22 @@ fn sums(scaled: &[[u16; 16]; 4], v: &[u16; 64]) -> [u32; 16]
     let c = dots(scaled[2], v);
     let d = dots(scaled[3], v);
     [
-        a.a, a.b, a.c, a.d, b.a, b.b, b.c, b.d, c.a, c.b, c.c, c.d, d.a, d.b, d.c, d.d,
+        a.a,
+        a.b,
+        a.c,
+        a.d,
+        b.a,
+        b.b,
+        b.c,
+        b.d,
+        c.a,
+        c.b,
+        c.c,
+        c.d,
+        d.a,
+        d.b,
+        d.c,
+        d.d,
     ]
 }
 
@@ -213,7 +104,7 @@ fn expected(inverses: &[u16; 31], members: &[u16], scaled: [u16; 16]) -> [u16; 1
     let mut a = 0;
     while a < 7 {
         let j = members[a] as usize;
-        let next = lanes::add16(sums, scaled[j], away_from(inverses, j));
+        let next = lanes::add16(sums, scaled[j], key_weights::away_from(inverses, j));
         sums = next;
         a += 1;
     }
@@ -296,10 +187,10 @@ fn interpolate_by(
     ensures { λ r. ⌜ Interpolates (now (members .entry)) (now (shares .entry)) (r .consistent) (r .values) ⌝ }
 {
     let k = members.len();
-    let w = weigh(inverses, members);
+    let w = key_weights::weigh(inverses, members);
     let weights = w.inverses;
     let products = w.products;
-    let scaled = scale(shares, k, members, weights);
+    let scaled = key_weights::scale(shares, k, members, weights);
     let values = read(&scaled, positions, products);
     let consistent = all_agree(inverses, weights, &scaled, shares, members, k);
     Interpolated { consistent, values }
@@ -318,3 +209,107 @@ pub fn interpolate(set: u32, shares: &[u16]) -> Interpolated
     let k = set_systems::walk(set, &mut members);
     interpolate_by(&inverses, &positions, &members[..k], shares)
 }
+
+// TABLES
+// 1 / (i - j) at 15 + i - j, for depots i and j; 1 at 15.
+const INVERSES: [u16; 31] = [
+    137, // 1 / -15
+    55,
+    79,
+    107,
+    70,
+    77,
+    57,
+    32,
+    110,
+    214,
+    154,
+    64,
+    171,
+    128,
+    256,
+    1,
+    1,
+    129,
+    86,
+    193,
+    103,
+    43,
+    147,
+    225,
+    200,
+    180,
+    187,
+    150,
+    178,
+    202,
+    120,
+];
+
+// 1 / (q - 7 - i) at 16 q + i, for position q and depot i, whose point is 7 + i.
+const POSITIONS: [u16; 64] = [
+    110,
+    32,
+    57,
+    77,
+    70,
+    107,
+    79,
+    55,
+    137,
+    16,
+    136,
+    157,
+    27,
+    167,
+    208,
+    35,
+    214,
+    110,
+    32,
+    57,
+    77,
+    70,
+    107,
+    79,
+    55,
+    137,
+    16,
+    136,
+    157,
+    27,
+    167,
+    208,
+    154,
+    214,
+    110,
+    32,
+    57,
+    77,
+    70,
+    107,
+    79,
+    55,
+    137,
+    16,
+    136,
+    157,
+    27,
+    167,
+    64,
+    154,
+    214,
+    110,
+    32,
+    57,
+    77,
+    70,
+    107,
+    79,
+    55,
+    137,
+    16,
+    136,
+    157,
+    27,
+];

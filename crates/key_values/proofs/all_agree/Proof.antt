@@ -10,7 +10,7 @@ use lib.ListN.{getD}
 use Rattle.base.specs.Fill.{tab}
 use Rattle.base.proofs.Choice.{either}
 use Rattle.key_values.specs.Inner.{expected, agrees, Agreed, AllAgreed, all, differs}
-use Rattle.key_values.proofs.Lanes.{fewer, agreed-no, agreed-yes}
+use Rattle.key_values.proofs.Laws.{fewer, agreed-no, agreed-yes}
 use Rattle.key_values.proofs.all_agree.Statement.{statement}
 use Rattle.key_values.proofs.all_agree.Tie as tie
 
@@ -39,12 +39,12 @@ mul-agree : tie.Need-mul-agree Inv-loop μ-loop
 mul-agree c = omega (arith, mul-le-mul-right (c .before .before .before .before .before .before .before .args .k) (c .before .before .loop-test .taken), suc-mul (c .before .before .before .loop .b) (c .before .before .before .before .before .before .before .args .k), c .before .before .before .before .before .before .before .pre .0 .1)
 
 agree-requires : tie.Need-agree-requires Inv-loop μ-loop
-agree-requires c κs = 
+agree-requires c κs =
     let s = c .before .before .before .before .before .before .before in
     ((s .pre .0 .0, s .pre .0 .1, omega (arith, mul-le-mul-right (s .args .k) (c .before .before .loop-test .taken), suc-mul (c .before .before .before .loop .b) (s .args .k), s .pre .0 .1), omega (arith, mul-le-mul-right (s .args .k) (c .before .before .loop-test .taken), suc-mul (c .before .before .before .loop .b) (s .args .k), s .pre .0 .2)), (s .pre .1 .0, (s .pre .1 .1 .1 .1 .1, s .pre .1 .1 .1 .0)))
 
 returns-2 : tie.Need-returns-2 Inv-loop μ-loop
-returns-2 c = 
+returns-2 c =
     let (x, l, m, h) = agreed-no _ _ _ (rw (c .before .before .expected .ensures) at (c .before .agree .ensures)) (c .if2 .taken) in
     differs (c .before .before .before .before .before .loop .b) x (c .before .before .before .before .loop-test .taken) l m h
 
@@ -55,11 +55,12 @@ loop-less : tie.Need-loop-less Inv-loop μ-loop
 loop-less c = search needs
 
 loop-again : tie.Need-loop-again Inv-loop μ-loop
-loop-again c = 
-    (search needs,
-    λ d x l m n. either d (c .before .before .before .before .before .loop .b) _
-    (λ e. rw (e) (rw (c .before .before .expected .ensures) at (agreed-yes _ _ _ (c .before .agree .ensures) (c .if2 .left) x m n)))
-    (λ h. c .before .before .before .before .before .loop .inv .1 d x (omega (arith, l, h)) m n))
+loop-again c = (
+  search needs,
+  λ d x l m n. either d (c .before .before .before .before .before .loop .b) _
+      (λ e. rw (e) (rw (c .before .before .expected .ensures) at (agreed-yes _ _ _ (c .before .agree .ensures) (c .if2 .left) x m n)))
+      (λ h. c .before .before .before .before .before .loop .inv .1 d x (omega (arith, l, h)) m n),
+)
 
 returns-3 : tie.Need-returns-3 Inv-loop μ-loop
 returns-3 c = all (λ b x l m n. c .before .loop .inv .1 b x (omega (arith, l, c .loop-test .left)) m n)

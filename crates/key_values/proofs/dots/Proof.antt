@@ -6,7 +6,7 @@ use native.Mathlib.Omega.{arith}
 use borrow.Author.Needs.{needs}
 use Rattle.base.specs.Sum.{sum}
 use Rattle.field.specs.Dot.{at, dot}
-use Rattle.key_values.proofs.Lanes.{below-dot, dot-next}
+use Rattle.key_values.proofs.Laws.{below-dot, dot-next}
 use Rattle.key_values.proofs.dots.Statement.{statement}
 use Rattle.key_values.proofs.dots.Tie as tie
 

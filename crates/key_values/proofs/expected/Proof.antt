@@ -9,8 +9,8 @@ use Rattle.base.specs.Fill.{tab}
 use Rattle.base.proofs.Fill.{getD-tab, tab-ext}
 use Rattle.base.proofs.Matrix.{below-tab}
 use Rattle.field.specs.Dot.{at, dot}
-use Rattle.key_values.specs.Inner.{away}
-use Rattle.key_values.proofs.Lanes.{sums-none, sums-next, below-dot}
+use Rattle.key_weights.specs.Inner.{away}
+use Rattle.key_values.proofs.Laws.{sums-none, sums-next, below-dot}
 use Rattle.key_values.proofs.expected.Statement.{statement}
 use Rattle.key_values.proofs.expected.Tie as tie
 

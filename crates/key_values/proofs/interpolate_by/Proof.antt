@@ -2,7 +2,8 @@
 use mathlib.Core.Path.{_≡_}
 use native.Mathlib.Omega.{arith}
 use Rattle.base.proofs.Matrix.{below-tab}
-use Rattle.key_values.proofs.Lanes.{fewer, lanes-below, columns-below}
+use Rattle.key_weights.proofs.Lanes.{lanes-below}
+use Rattle.key_values.proofs.Laws.{fewer, columns-below}
 use Rattle.key_values.proofs.Values.{interpolates}
 use Rattle.key_values.proofs.interpolate_by.Statement.{statement}
 use Rattle.key_values.proofs.interpolate_by.Tie as tie

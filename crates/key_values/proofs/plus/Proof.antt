@@ -4,7 +4,7 @@ use Prim.Native.Nat.{_%_, _<_}
 use native.Mathlib.Nat.{mod-eq-of-lt}
 use native.Mathlib.Omega.{arith}
 use borrow.Author.Needs.{needs}
-use Rattle.key_values.proofs.Lanes.{product-le}
+use Rattle.key_values.proofs.Laws.{product-le}
 use Rattle.key_values.proofs.plus.Statement.{statement}
 use Rattle.key_values.proofs.plus.Tie as tie
 

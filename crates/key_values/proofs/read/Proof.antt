@@ -7,7 +7,8 @@ use lib.ListN.{getD}
 use Rattle.base.proofs.Fill.{getD-tab, tab-ext}
 use Rattle.base.proofs.Matrix.{below-tab}
 use Rattle.field.specs.Dot.{at}
-use Rattle.key_values.proofs.Lanes.{below-dot, lanes-below}
+use Rattle.key_weights.proofs.Lanes.{lanes-below}
+use Rattle.key_values.proofs.Laws.{below-dot}
 use Rattle.key_values.proofs.read.Statement.{statement}
 use Rattle.key_values.proofs.read.Tie as tie
 

@@ -8,10 +8,10 @@ use lib.ListN.{length, getD}
 use native.Mathlib.Nat.{mul-le-mul-right, suc-mul}
 use Rattle.base.specs.Fill.{filled}
 use Rattle.base.proofs.Fill.{filled-none, filled-store}
-use Rattle.key_values.specs.Inner.{placedAt}
-use Rattle.key_values.proofs.Lanes.{four-filled}
-use Rattle.key_values.proofs.place.Statement.{statement}
-use Rattle.key_values.proofs.place.Tie as tie
+use Rattle.key_weights.specs.Inner.{placedAt}
+use Rattle.key_weights.proofs.Lanes.{four-filled}
+use Rattle.key_weights.proofs.place.Statement.{statement}
+use Rattle.key_weights.proofs.place.Tie as tie
 
 abbrev Inv-loop : tie.InvT-loop
 Inv-loop shares k members r₀ b₀ r b = (b ≤ 4) × (length r₀ ≡ 4) × (r ≡ filled (λ b. placedAt members shares (b * k)) b r₀)

@@ -10,10 +10,10 @@ use Rattle.base.specs.Fill.{tab}
 use Rattle.base.proofs.Matrix.{below-tab}
 use Rattle.field.specs.Dot.{at}
 use Rattle.polynomial.specs.Polynomial.{prod}
-use Rattle.key_values.specs.Inner.{away, behind}
-use Rattle.key_values.proofs.Lanes.{factors-none, factors-next, lanes-below}
-use Rattle.key_values.proofs.weigh.Statement.{statement}
-use Rattle.key_values.proofs.weigh.Tie as tie
+use Rattle.key_weights.specs.Inner.{away, behind}
+use Rattle.key_weights.proofs.Lanes.{factors-none, factors-next, lanes-below}
+use Rattle.key_weights.proofs.weigh.Statement.{statement}
+use Rattle.key_weights.proofs.weigh.Tie as tie
 
 abbrev Inv-loop : tie.InvT-loop
 Inv-loop inverses members x₀ y₀ a₀ x y a = (a ≤ 7) × (x ≡ tab 16 (λ i. prod a (λ s. away inverses (at members s) i) % 257)) × (y ≡ tab 16 (λ i. prod a (λ s. behind (at members s) i) % 257))

@@ -7,10 +7,10 @@ use borrow.Author.Needs.{needs}
 use lib.ListN.{length, getD}
 use Rattle.base.specs.Fill.{tab}
 use Rattle.field.specs.Dot.{at}
-use Rattle.key_values.specs.Inner.{spread}
-use Rattle.key_values.proofs.Lanes.{place-none, place-next}
-use Rattle.key_values.proofs.placed.Statement.{statement}
-use Rattle.key_values.proofs.placed.Tie as tie
+use Rattle.key_weights.specs.Inner.{spread}
+use Rattle.key_weights.proofs.Lanes.{place-none, place-next}
+use Rattle.key_weights.proofs.placed.Statement.{statement}
+use Rattle.key_weights.proofs.placed.Tie as tie
 
 abbrev Inv-loop : tie.InvT-loop
 Inv-loop shares start members r₀ a₀ r a = (a ≤ 7) × (r ≡ tab 16 (spread members a (λ a. at shares (start + a))))

@@ -7,10 +7,10 @@ use borrow.Author.Needs.{needs}
 use lib.ListN.{length, getD}
 use Rattle.base.specs.Fill.{filled}
 use Rattle.base.proofs.Fill.{filled-none, filled-store}
-use Rattle.key_values.specs.Inner.{scaledAt}
-use Rattle.key_values.proofs.Lanes.{four-filled, placed-below, scaled-column}
-use Rattle.key_values.proofs.scale.Statement.{statement}
-use Rattle.key_values.proofs.scale.Tie as tie
+use Rattle.key_weights.specs.Inner.{scaledAt}
+use Rattle.key_weights.proofs.Lanes.{four-filled, placed-below, scaled-column}
+use Rattle.key_weights.proofs.scale.Statement.{statement}
+use Rattle.key_weights.proofs.scale.Tie as tie
 
 abbrev Inv-loop : tie.InvT-loop
 Inv-loop shares k members weights placed r₀ b₀ r b = (b ≤ 4) × (length r₀ ≡ 4) × (r ≡ filled (scaledAt members shares k weights) b r₀)

@@ -1,19 +1,18 @@
--- What the loops over lanes need: bounds of sums of products, one factor and one share more.
--- dot-le: a sum of n products of at most c
--- below-dot: a sum of at most 16 products of field elements
--- prod-next: a product modulo 257, one factor more
+-- What the loops over lanes need: one factor and one share more, and that lanes hold field elements.
+-- lanes-below: lanes that are reduced
+-- prod-next: a product modulo 257, one factor more; factors-none, factors-next: so in all lanes
 -- apart: different members are different depots
 -- spread-at, spread-other: the share at a member's place, and 0 at every other
--- place-next: one share more at its place
+-- place-none, place-next: one share more at its place
+-- placed-below, scaled-column: a column of shares, and these times the weights
 use mathlib.Core.Path.{_≡_, refl, sym, ap, _∙_}
-use mathlib.Core.Bool.{Bool, true, false, not, true≢false}
 use mathlib.Core.List.{List, []}
-use Prim.Native.Nat.{ℕ, zero, suc, _+_, _-_, _*_, _%_, _≤_, _<_}
-use native.Mathlib.Nat.{mul-le-mul, mod-lt}
+use Prim.Native.Nat.{ℕ, zero, suc, _+_, _*_, _%_, _≤_, _<_}
+use native.Mathlib.Nat.{mod-lt}
 use native.Mathlib.Decide.{decLt}
 use native.Mathlib.Numerals.{add-one}
 use native.Mathlib.Omega.{arith}
-use lib.ListN.{length, getD, set, length-set, replicate, List·getD-eq-default}
+use lib.ListN.{length, getD, set, length-set, replicate}
 use lib.Seq.{getD-set-same, getD-set-other}
 use Rattle.base.specs.Sum.{sum, unit}
 use Rattle.base.specs.Fill.{tab, tabFrom, filled}
@@ -26,24 +25,26 @@ use Rattle.field.specs.Dot.{at, dot}
 use Rattle.field.proofs.Congruence.{mod-mul-mod}
 use Rattle.field.proofs.Dot.{dot-step, dot-same, dot-unit, dot-none}
 use Rattle.polynomial.specs.Polynomial.{prod}
-use Rattle.key_values.specs.Inner.{Depots, Columns, spread, placedAt, scaledAt, Agreed, all, differs}
+use Rattle.key_weights.specs.Inner.{Depots, spread, placedAt, scaledAt}
 
-pub dot-le : (n c : ℕ) (u v : ℕ → ℕ) → ((i : ℕ) → i < n → u i * v i ≤ c) → dot n u v ≤ n * c
-unfolding dot sum
-dot-le zero c u v h = omega arith
-dot-le (suc n) c u v h = omega (arith, dot-le n c u v (λ i l. h i (omega arith)), h n (omega arith))
-
-pub product-le : (x y : ℕ) → x < 257 → y < 257 → x * y ≤ 65536
-product-le x y l m = let hx : x ≤ 256 = omega arith in let hy : y ≤ 256 = omega arith in mul-le-mul hx hy
-
-pub below-dot : (n : ℕ) (u v : ℕ → ℕ) → n ≤ 16 → ((i : ℕ) → i < n → u i < 257) → ((i : ℕ) → i < n → v i < 257) → dot n u v < 1048577
-below-dot n u v l hu hv =
-    omega (arith, dot-le n 65536 u v (λ i m. product-le (u i) (v i) (hu i m) (hv i m)))
+-- lanes below 257
+pub lanes-below : (f : ℕ → ℕ) (l : List ℕ) → l ≡ tab 16 (λ i. f i % 257) → Below 257 l
+lanes-below f l e = rw e (below-tab 257 16 (λ i. f i % 257) (omega arith) (λ k m. mod-lt (f k) (omega arith)))
 
 -- FACTORS
 pub prod-next : (n : ℕ) (f : ℕ → ℕ) → (prod n f % 257 * f n) % 257 ≡ prod (n + 1) f % 257
 unfolding prod
 prod-next n f = rw (add-one n) (mod-mul-mod (prod n f) (f n) 257)
+
+pub factors-none : (f : ℕ → ℕ → ℕ) → replicate 16 1 ≡ tab 16 (λ i. prod 0 (λ a. f a i) % 257)
+unfolding prod tab tabFrom
+factors-none f = refl
+
+pub factors-next : (n : ℕ) (f : ℕ → ℕ → ℕ) (x w : List ℕ) → x ≡ tab 16 (λ i. prod n (λ a. f a i) % 257) → w ≡ tab 16 (f n)
+    → tab 16 (λ i. at x i * at w i % 257) ≡ tab 16 (λ i. prod (n + 1) (λ a. f a i) % 257)
+factors-next n f x w e h =
+    tab-ext 16 _ _ (λ i l. ap (λ (z : List ℕ). at z i * at w i % 257) e ∙ ap (λ (z : List ℕ). at (tab 16 (λ i. prod n (λ a. f a i) % 257)) i * at z i % 257) h
+    ∙ rw (getD-tab 16 (λ i. prod n (λ a. f a i) % 257) 0 i l, getD-tab 16 (f n) 0 i l) (prod-next n (λ a. f a i)))
 
 -- SHARES
 pub apart : (ms : List ℕ) {k : ℕ} → Depots k ms → (a b : ℕ) → a < k → b < k → (a ≡ b → ⊥) → at ms a ≡ at ms b → ⊥
@@ -54,7 +55,6 @@ apart ms D a b l m h e = go (decLt a b)
     go (no j) = omega (arith, D .rise b a (omega (arith, h, j)) l, e)
 
 module _ (ms : List ℕ) {k : ℕ} (D : Depots k ms) (x : ℕ → ℕ) where
-
   pub spread-at : (n a : ℕ) → n ≤ k → a < n → spread ms n x (at ms a) ≡ x a
   unfolding spread
   spread-at n a l m =
@@ -84,41 +84,10 @@ module _ (ms : List ℕ) {k : ℕ} (D : Depots k ms) (x : ℕ → ℕ) where
       (λ q. getD-set-other r (at ms n) i (x n) 0 q ∙ ap (λ z. getD z i 0) e ∙ getD-tab 16 (spread ms n x) 0 i m
       ∙ sym (spread-step n i ∙ rw (unit-other (at ms n) i (λ p. q (sym p))) (omega arith))))
 
--- ONE STEP MORE
 -- nothing is placed yet
 pub place-none : (ms : List ℕ) (x : ℕ → ℕ) → replicate 16 0 ≡ tab 16 (spread ms 0 x)
 unfolding spread dot sum tab tabFrom
 place-none ms x = refl
-
-pub factors-none : (f : ℕ → ℕ → ℕ) → replicate 16 1 ≡ tab 16 (λ i. prod 0 (λ a. f a i) % 257)
-unfolding prod tab tabFrom
-factors-none f = refl
-
-pub sums-none : (u : ℕ → ℕ) (f : ℕ → ℕ → ℕ) → replicate 16 0 ≡ tab 16 (λ i. dot 0 u (λ a. f a i))
-unfolding dot sum tab tabFrom
-sums-none u f = refl
-
-pub factors-next : (n : ℕ) (f : ℕ → ℕ → ℕ) (x w : List ℕ) → x ≡ tab 16 (λ i. prod n (λ a. f a i) % 257) → w ≡ tab 16 (f n)
-    → tab 16 (λ i. at x i * at w i % 257) ≡ tab 16 (λ i. prod (n + 1) (λ a. f a i) % 257)
-factors-next n f x w e h =
-    tab-ext 16 _ _ (λ i l. ap (λ (z : List ℕ). at z i * at w i % 257) e ∙ ap (λ (z : List ℕ). at (tab 16 (λ i. prod n (λ a. f a i) % 257)) i * at z i % 257) h
-    ∙ rw (getD-tab 16 (λ i. prod n (λ a. f a i) % 257) 0 i l, getD-tab 16 (f n) 0 i l) (prod-next n (λ a. f a i)))
-
-pub sums-next : (n : ℕ) (u : ℕ → ℕ) (f : ℕ → ℕ → ℕ) (s w : List ℕ) → s ≡ tab 16 (λ i. dot n u (λ a. f a i)) → w ≡ tab 16 (f n)
-    → tab 16 (λ i. at s i + u n * at w i) ≡ tab 16 (λ i. dot (n + 1) u (λ a. f a i))
-sums-next n u f s w e h =
-    tab-ext 16 _ _ (λ i l. ap (λ (z : List ℕ). at z i + u n * at w i) e ∙ ap (λ (z : List ℕ). at (tab 16 (λ i. dot n u (λ a. f a i))) i + u n * at z i) h
-    ∙ rw (getD-tab 16 (λ i. dot n u (λ a. f a i)) 0 i l, getD-tab 16 (f n) 0 i l) (sym (dot-step n u (λ a. f a i))))
-
-pub dot-next : (i : ℕ) (u v : ℕ → ℕ) (s y : ℕ) → s ≡ dot i u v → y ≡ v i → s + u i * y ≡ dot (i + 1) u v
-dot-next i u v s y e h = rw (e, h) (sym (dot-step i u v))
-
--- lanes below 257
-pub lanes-below : (f : ℕ → ℕ) (l : List ℕ) → l ≡ tab 16 (λ i. f i % 257) → Below 257 l
-lanes-below f l e = rw e (below-tab 257 16 (λ i. f i % 257) (omega arith) (λ k m. mod-lt (f k) (omega arith)))
-
-pub four-filled : (f : ℕ → List ℕ) (l : List (List ℕ)) → length l ≡ 4 → filled f 4 l ≡ tab 4 f
-four-filled f l e = rw e at (filled-whole f [] l)
 
 -- what is placed is a share or 0
 pub spread-below : (ms : List ℕ) {k : ℕ} (D : Depots k ms) (x : ℕ → ℕ) → ((a : ℕ) → x a < 257) → (n i : ℕ) → n ≤ k → spread ms n x i < 257
@@ -128,21 +97,8 @@ spread-below ms {k} D x small (suc n) i l =
     (λ e. rw (← e, spread-at ms D x (suc n) n l (omega arith)) (small n))
     (λ h. rw (spread-skip ms D x n i h) (spread-below ms D x small n i (omega arith)))
 
--- ANSWERS OF TESTS
-pub agreed-no : (k : ℕ) (t : ℕ → Bool) (r : Bool) → Agreed k t r → not r ≡ true → (x : ℕ) × (7 ≤ x) × (x < k) × (t x ≡ false)
-agreed-no k t true (all h) e = absurd (true≢false (sym e))
-agreed-no k t false (differs x l m h) e = (x, l, m, h)
-
-pub agreed-yes : (k : ℕ) (t : ℕ → Bool) (r : Bool) → Agreed k t r → not r ≡ false → (x : ℕ) → 7 ≤ x → x < k → t x ≡ true
-agreed-yes k t true (all h) e = h
-agreed-yes k t false (differs x l m h) e = absurd (true≢false e)
-
-pub fewer : {k j : ℕ} {ms : List ℕ} → Depots k ms → j ≤ k → Depots j ms
-fewer D l = record {
-  fits = omega (arith, D .fits);
-  below = λ a m. D .below a (omega arith);
-  rise = λ a b m n. D .rise a b m (omega arith);
-}
+pub four-filled : (f : ℕ → List ℕ) (l : List (List ℕ)) → length l ≡ 4 → filled f 4 l ≡ tab 4 f
+four-filled f l e = rw e at (filled-whole f [] l)
 
 -- COLUMNS
 module _ (ms xs : List ℕ) (k : ℕ) (D : Depots 7 ms) (small : Below 257 xs) {placed : List (List ℕ)} (e : placed ≡ tab 4 (λ b. placedAt ms xs (b * k)))
@@ -156,13 +112,3 @@ module _ (ms xs : List ℕ) (k : ℕ) (D : Depots 7 ms) (small : Below 257 xs) {
   pub scaled-column : (weights : List ℕ) → tab 16 (λ i. at (getD placed b []) i * at weights i % 257) ≡ scaledAt ms xs k weights b
   scaled-column weights =
       rw column (tab-ext 16 _ _ (λ i m. ap (λ z. z * at weights i % 257) (getD-tab 16 (spread ms 7 (λ a. at xs (b * k + a))) 0 i m)))
-
-pub columns-below : (f : ℕ → ℕ → ℕ) (t : List (List ℕ)) → t ≡ tab 4 (λ b. tab 16 (λ i. f b i % 257)) → Columns t
-columns-below f t e b = go (decLt b 4)
-  where
-    columns : ℕ → List ℕ
-    columns b = tab 16 (λ i. f b i % 257)
-
-    go : Dec (b < 4) → Below 257 (getD t b [])
-    go (yes l) = rw (e, getD-tab 4 columns [] b l) (lanes-below (f b) (columns b) refl)
-    go (no h) = rw (e, List·getD-eq-default (tab 4 columns) [] {n = b} (omega (arith, h, length-tab 4 columns))) (λ i. omega arith)
