@@ -1,7 +1,7 @@
 -- The laws of products: y (G x) = (y G) x, a combination of vectors, and what a row for a position reads.
 use mathlib.Core.Path.{_≡_, refl, sym, ap, ap₂, _∙_, _≡⟨_⟩_, _∎}
 use mathlib.Core.List.{List}
-use Prim.Native.Nat.{ℕ, _+_, _*_, _%_, _<_}
+use Prim.Native.Nat.{ℕ, zero, suc, _+_, _*_, _%_, _≤_, _<_}
 use native.Mathlib.Numerals.{add-one}
 use native.Mathlib.Omega.{arith}
 use native.Mathlib.Nat.{zero-mod}
@@ -54,6 +54,12 @@ dot-unit d q v l = sum-unit d q v l
 pub dot-none : (d : ℕ) (u v : ℕ → ℕ) → ((j : ℕ) → j < d → u j ≡ 0) → dot d u v ≡ 0
 unfolding dot
 dot-none d u v h = sum-none d _ (λ i l. rw (h i l) (omega arith))
+
+-- a sum of d products of at most c
+pub dot-le : (d c : ℕ) (u v : ℕ → ℕ) → ((j : ℕ) → j < d → u j * v j ≤ c) → dot d u v ≤ d * c
+unfolding dot sum
+dot-le zero c u v h = omega arith
+dot-le (suc d) c u v h = omega (arith, dot-le d c u v (λ j l. h j (omega arith)), h d (omega arith))
 
 pub dot-zero : (p d : ℕ) (u v : ℕ → ℕ) → ((j : ℕ) → j < d → u j % p ≡ 0) → dot d u v % p ≡ 0
 dot-zero p d u v h =

@@ -4,18 +4,18 @@
 use Prim.Native.Nat.{ℕ, zero, suc, _+_, _*_, _/_, _%_, _≤_, _<_}
 use mathlib.Core.Path.{_≡_, refl, sym, ap, _∙_}
 use mathlib.Core.List.{List, []}
-use native.Mathlib.Nat.{mul-le-mul, mul-comm, div-add-mod'}
+use native.Mathlib.Nat.{mul-comm, div-add-mod'}
 use native.Mathlib.Omega.{arith}
 use lib.ListN.{length, getD, set, length-set}
 use lib.Seq.{getD-set-same, getD-set-other}
-use Rattle.base.specs.Sum.{sum}
 use Rattle.base.specs.Fill.{tab}
 use Rattle.base.specs.Matrix.{flat, Below}
 use Rattle.base.proofs.Choice.{either}
 use Rattle.base.proofs.Fill.{getD-tab, tab-ext, tab-is}
 use Rattle.base.proofs.Matrix.{below-tab, place-at}
 use Rattle.field.specs.Dot.{at, dot}
-use Rattle.field.proofs.Dot.{dot-step, dot-ext, dot-same, dot-comm, dot-comb}
+use Rattle.field.proofs.Dot.{dot-step, dot-ext, dot-same, dot-comm, dot-comb, dot-le}
+use Rattle.lanes.proofs.Laws.{half-le}
 use Rattle.key_entries.specs.Inner.{keyEntry}
 use Rattle.key_parts.specs.Inner.{Halves, matrixEntry, Put, entryG, entryH, partsG, partsH}
 
@@ -23,16 +23,11 @@ use Rattle.key_parts.specs.Inner.{Halves, matrixEntry, Put, entryG, entr
 abbrev pub lane : (columns : List (List ℕ)) (x : List ℕ) (k j : ℕ) → ℕ
 lane columns x k j = dot k (λ k. at (getD columns k []) j) (at x)
 
-small : (d : ℕ) (u v : ℕ → ℕ) → ((j : ℕ) → j < d → u j ≤ 16) → ((j : ℕ) → v j ≤ 256) → dot d u v ≤ d * 4096
-unfolding dot sum
-small zero u v h g = omega arith
-small (suc d) u v h g =
-    omega (arith, small d u v (λ j l. h j (omega arith)) g, mul-le-mul {n₁ = u d} {m₁ = v d} {n₂ = 16} {m₂ = 256} (h d (omega arith)) (g d))
-
 module _ (columns : List (List ℕ)) (x : List ℕ) where
   pub lanes-below : (k : ℕ) (sums : List ℕ) → Halves columns → Below 257 x → k ≤ 7 → sums ≡ tab 32 (lane columns x k) → Below 61440 sums
   lanes-below k sums h g l e =
-      rw e (below-tab 61440 32 _ (omega arith) (λ j m. omega (arith, small k (λ k. at (getD columns k []) j) (at x) (λ i q. omega (arith, h .small i (omega arith) j)) (λ i. omega (arith, g i)))))
+      rw e (below-tab 61440 32 _ (omega arith) (λ j m.
+      omega (arith, dot-le k 4096 (λ k. at (getD columns k []) j) (at x) (λ i q. half-le _ _ (h .small i (omega arith) j) (g i)))))
 
   pub lanes-step : (k : ℕ) (sums next : List ℕ) → sums ≡ tab 32 (lane columns x k)
       → next ≡ tab 32 (λ j. getD sums j 0 + at x k * at (getD columns k []) j) → next ≡ tab 32 (lane columns x (k + 1))

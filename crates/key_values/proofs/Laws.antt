@@ -1,5 +1,5 @@
 -- What the sums and the tests need: bounds of sums of products, one product more, and what an answer says of its tests.
--- dot-le: a sum of n products of at most c; below-dot: of at most 16 products of field elements
+-- below-dot: a sum of at most 16 products of field elements
 -- dot-next, sums-none, sums-next: one product more, and so in all lanes
 -- agreed-no, agreed-yes: what the answer of one column says
 -- fewer: fewer of the members
@@ -8,7 +8,6 @@ use mathlib.Core.Path.{_≡_, refl, sym, ap, _∙_}
 use mathlib.Core.Bool.{Bool, true, false, not, true≢false}
 use mathlib.Core.List.{List, []}
 use Prim.Native.Nat.{ℕ, zero, suc, _+_, _*_, _%_, _≤_, _<_}
-use native.Mathlib.Nat.{mul-le-mul}
 use native.Mathlib.Decide.{decLt}
 use native.Mathlib.Omega.{arith}
 use lib.ListN.{length, getD, replicate, List·getD-eq-default}
@@ -17,18 +16,11 @@ use Rattle.base.specs.Fill.{tab, tabFrom}
 use Rattle.base.specs.Matrix.{Below}
 use Rattle.base.proofs.Fill.{length-tab, getD-tab, tab-ext}
 use Rattle.field.specs.Dot.{at, dot}
-use Rattle.field.proofs.Dot.{dot-step}
+use Rattle.field.proofs.Dot.{dot-step, dot-le}
+use Rattle.lanes.proofs.Laws.{product-le}
 use Rattle.key_weights.specs.Inner.{Depots}
 use Rattle.key_weights.proofs.Lanes.{lanes-below}
 use Rattle.key_values.specs.Inner.{Columns, Agreed, all, differs}
-
-pub dot-le : (n c : ℕ) (u v : ℕ → ℕ) → ((i : ℕ) → i < n → u i * v i ≤ c) → dot n u v ≤ n * c
-unfolding dot sum
-dot-le zero c u v h = omega arith
-dot-le (suc n) c u v h = omega (arith, dot-le n c u v (λ i l. h i (omega arith)), h n (omega arith))
-
-pub product-le : (x y : ℕ) → x < 257 → y < 257 → x * y ≤ 65536
-product-le x y l m = let hx : x ≤ 256 = omega arith in let hy : y ≤ 256 = omega arith in mul-le-mul hx hy
 
 pub below-dot : (n : ℕ) (u v : ℕ → ℕ) → n ≤ 16 → ((i : ℕ) → i < n → u i < 257) → ((i : ℕ) → i < n → v i < 257) → dot n u v < 1048577
 below-dot n u v l hu hv =

@@ -12,14 +12,6 @@ ghost use Rattle.key_weights.specs.Inner.{Depots};
 ghost use Rattle.key_values.specs.Inner.{Columns, Tables, Ready, shown, readAt, expected, agrees, Agreed, AllAgreed, depots, Interpolates};
 
 // POSITIONS
-// A product is added. The compiler sees that the factors are small.
-fn plus(sum: u32, x: u16, y: u16) -> u32
-    requires { ⌜ (sum < 1048577) × (x < 257) × (y < 257) ⌝ }
-    ensures { λ r. ⌜ r ≡ sum + x * y ⌝ }
-{
-    sum + ((x % 512) as u32) * ((y % 512) as u32)
-}
-
 struct Four {
     a: u32,
     b: u32,
@@ -43,10 +35,10 @@ fn dots(scaled: [u16; 16], v: &[u16; 64]) -> Four
     let mut i = 0;
     while i < 16 {
         let x = scaled[i];
-        a = plus(a, x, v[i]);
-        b = plus(b, x, v[16 + i]);
-        c = plus(c, x, v[32 + i]);
-        d = plus(d, x, v[48 + i]);
+        a = lanes::plus(a, x, v[i]);
+        b = lanes::plus(b, x, v[16 + i]);
+        c = lanes::plus(c, x, v[32 + i]);
+        d = lanes::plus(d, x, v[48 + i]);
         i += 1;
     }
     Four { a, b, c, d }

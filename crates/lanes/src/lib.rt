@@ -44,12 +44,12 @@ pub fn times16(a: [u16; 16], b: [u16; 16]) -> [u16; 16]
 }
 
 // SUMS OF 32 BITS
-// A product of at most 65536 is added.
-fn plus(y: u32, x: u16, z: u16) -> u32
-    requires { ⌜ (y < 1048577) × (x ≤ 256) × (z < 257) ⌝ }
-    ensures { λ r. ⌜ r ≡ y + x * z ⌝ }
+// A product is added. The remainders by 512 change nothing; they tell the compiler that the factors are small.
+pub fn plus(sum: u32, x: u16, y: u16) -> u32
+    requires { ⌜ (sum < 1048577) × (x < 257) × (y < 257) ⌝ }
+    ensures { λ r. ⌜ r ≡ sum + x * y ⌝ }
 {
-    y + (x as u32) * (z as u32)
+    sum + ((x % 512) as u32) * ((y % 512) as u32)
 }
 
 // x times a is added in 16 lanes.

@@ -34,7 +34,7 @@ array-read-plus-2 c = search needs
 plus-requires : tie.Need-plus-requires Inv-loop μ-loop
 plus-requires c κs =
     let s = c .before .before in
-    (s .pre .1 .0 _, s .pre .0, s .pre .1 .1 _)
+    (s .pre .1 .0 _, omega (arith, s .pre .0), s .pre .1 .1 _)
 
 mul-r : tie.Need-mul-r Inv-loop μ-loop
 mul-r c = search needs
