@@ -13,7 +13,7 @@ use lib.ListN.{length}
 use Rattle.base.specs.Rules.{refusal, Answer, refused, given, leftBy}
 use Rattle.base.specs.Search.{Vec}
 use Rattle.base.specs.Fill.{tab}
-use Rattle.base.specs.Matrix.{entry, flat, Below, allBelow}
+use Rattle.base.specs.Matrix.{entry, Below, allBelow}
 use Rattle.base.proofs.Fill.{length-tab, getD-tab, tab-is, tab-ext}
 use Rattle.base.proofs.Matrix.{below-by, below-is}
 use Rattle.field.specs.Dot.{at, dot}
@@ -21,7 +21,6 @@ use Rattle.field.proofs.Dot.{dot-ext}
 use Rattle.polynomial.specs.Polynomial.{lagrange}
 use Rattle.scheme.specs.Answers.{undetermined, inconsistent}
 use Rattle.scheme.specs.Sets.{holds, members}
-use Rattle.scheme.specs.Answering.{Behind}
 use Rattle.scheme.specs.Opening.{opening}
 use Rattle.scheme.specs.Calls.{openAnswer}
 use Rattle.scheme.proofs.Members.{members-wide}
@@ -114,7 +113,10 @@ module _ (s : ℕ) (xs out : List ℕ) (clear : refusal (openKeyRules s xs out) 
   counted = count ∙ key-members s (ok .inside)
 
   pub asked : 7 ≤ k → (s < 2 ^ 16) × (((7 ≤ length (depots s)) × (length xs ≡ 4 * length (depots s))) × Below 257 xs)
-  asked l = (ok .inside, ((omega (arith, l, count), ok .shares .size ∙ ap (λ z. 4 * z) (sym (key-members s (ok .inside)))), below-by 257 xs (omega arith) (below-is 257 xs (λ t m. ok .shares .small t (omega (arith, m, ok .shares .size))))))
+  asked l =
+      let size = ok .shares .size ∙ ap (λ z. 4 * z) (sym (key-members s (ok .inside))) in
+      let small = below-by 257 xs (omega arith) (below-is 257 xs (λ t m. ok .shares .small t (omega (arith, m, ok .shares .size)))) in
+      (ok .inside, ((omega (arith, l, count), size), small))
 
   pub ends-few : k < 7 → Ends s xs out (undetermined 0) out
   ends-few l = rw (few-open s xs (omega (arith, l, counted))) (refl, refl)

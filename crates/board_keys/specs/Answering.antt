@@ -29,7 +29,7 @@ pub record KeysMarked : Type 0 where
 abbrev pub AllBehind : ℕ → List ℕ → Type 0
 AllBehind s xs = (b : ℕ) → b < 4 → Behind keySetup s (columnShares s xs b)
 
--- "7 in any column comes before a 256 in any other"
+-- 7 in any column comes before a 256 in any other
 pub record KeyOpenAnswers (s : ℕ) (xs out : List ℕ) : Type 0 where
   pub answers : Answers (openKeyCall s xs out) ↔ ((7 ≤ memberCount s) × AllBehind s xs × (allBelow 256 (opened s xs) ≡ true))
   pub six : (openKeyCall s xs out .number ≡ 6) ↔ (memberCount s < 7)

@@ -6,7 +6,7 @@ use Prim.Native.Nat.{ℕ, _^_, _<_}
 use borrow.Author.Tests.{le-leb, lt-leb}
 use Rattle.base.specs.Rules.{refusal}
 use Rattle.scheme.specs.Answers.{undetermined}
-use Rattle.scheme.specs.Sets.{holds, isPrivate}
+use Rattle.scheme.specs.Sets.{isPrivate}
 use Rattle.scheme.specs.Calls.{setRules}
 use Rattle.scheme.proofs.Calls.{set-accepts}
 use Rattle.board_keys.specs.Keys.{keySetup, memberCount}

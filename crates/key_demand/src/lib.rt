@@ -1,1 +1,1 @@
-// Theorems only; specs/Keys.antt states them.
+// What holds of board keys and what is proved of it, over the definitions of the calls: no code.

@@ -1,7 +1,7 @@
 -- The laws of the parts: sums in lanes, entries put side by side, and parts written entry by entry.
 -- lane: lane j's sum after k columns
 -- Begun: the first n entries of each of the sixteen parts are written
-use Prim.Native.Nat.{ℕ, zero, suc, _+_, _*_, _/_, _%_, _≤_, _<_}
+use Prim.Native.Nat.{ℕ, _+_, _*_, _/_, _%_, _≤_, _<_}
 use mathlib.Core.Path.{_≡_, refl, sym, ap, _∙_}
 use mathlib.Core.List.{List, []}
 use native.Mathlib.Nat.{mul-comm, div-add-mod'}

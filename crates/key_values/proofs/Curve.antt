@@ -3,24 +3,24 @@
 use mathlib.Core.Path.{_≡_, refl, sym, ap, _∙_}
 use mathlib.Core.List.{List}
 use Prim.Native.Nat.{ℕ, zero, suc, _+_, _-_, _*_, _%_, _≤_, _<_}
-use native.Mathlib.Nat.{mod-lt, mod-mod, mod-eq-of-lt}
+use native.Mathlib.Nat.{mod-mod, mod-eq-of-lt}
 use native.Mathlib.Omega.{arith}
 use lib.Dec.{eqb}
 use lib.ListN.{length}
 use borrow.Author.Tests.{eq-eqb, ne-eqb}
 use Rattle.base.specs.Sum.{sum, unit}
-use Rattle.base.specs.Matrix.{entry, Below}
+use Rattle.base.specs.Matrix.{entry}
 use Rattle.base.proofs.Choice.{either}
 use Rattle.base.proofs.Sum.{sum-ext}
 use Rattle.field.specs.Dot.{at, dot}
-use Rattle.field.proofs.Congruence.{cong-by, cong-mul, Cong, ~refl, ~of, ~sym, ~trans, ~mul, ~mod}
+use Rattle.field.proofs.Congruence.{cong-by, cong-mul, Cong, ~refl, ~trans, ~mul, ~mod}
 use Rattle.field.proofs.Prime.{prime-257}
-use Rattle.field.proofs.Dot.{dot-same, dot-mod, dot-mod-right, dot-comm, dot-ext, dot-assoc, dot-unit}
-use Rattle.polynomial.specs.Polynomial.{Poly, minus, basis, lagrange, prod}
+use Rattle.field.proofs.Dot.{dot-mod, dot-comm, dot-assoc, dot-unit}
+use Rattle.polynomial.specs.Polynomial.{Poly, minus, basis, prod}
 use Rattle.polynomial.proofs.Polynomial.{Distinct}
 use Rattle.polynomial.proofs.Interpolation.{differ, lagrange-poly, lagrange-node}
 use Rattle.polynomial.proofs.Barycentric.{whole, inverse-whole, inverse-basis, barycentric}
-use Rattle.key_weights.specs.Inner.{Depots, away, behind, spread}
+use Rattle.key_weights.specs.Inner.{away, behind, spread}
 use Rattle.key_values.specs.Inner.{Tables, Ready, curve}
 use Rattle.key_weights.proofs.Lanes.{apart, spread-at}
 

@@ -7,10 +7,10 @@
 use mathlib.Core.Path.{_≡_, refl, sym, ap, _∙_}
 use mathlib.Core.Bool.{Bool, true, false, not, true≢false}
 use mathlib.Core.List.{List, []}
-use Prim.Native.Nat.{ℕ, zero, suc, _+_, _*_, _%_, _≤_, _<_}
+use Prim.Native.Nat.{ℕ, _+_, _*_, _%_, _≤_, _<_}
 use native.Mathlib.Decide.{decLt}
 use native.Mathlib.Omega.{arith}
-use lib.ListN.{length, getD, replicate, List·getD-eq-default}
+use lib.ListN.{getD, replicate, List·getD-eq-default}
 use Rattle.base.specs.Sum.{sum}
 use Rattle.base.specs.Fill.{tab, tabFrom}
 use Rattle.base.specs.Matrix.{Below}

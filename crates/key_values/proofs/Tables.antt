@@ -15,7 +15,6 @@ use Rattle.base.proofs.Search.{every-at}
 use Rattle.field.specs.Dot.{at}
 use Rattle.scheme.specs.Sets.{holds}
 use Rattle.scheme.proofs.Members.{member-at, members-rise, members-le, members-wide}
-use Rattle.key_weights.specs.Inner.{Depots}
 use Rattle.key_values.specs.Inner.{Tables, Ready, depots}
 
 abbrev pub inverse-at : List ℕ → ℕ → Bool

@@ -14,7 +14,7 @@ use Rattle.field.specs.Dot.{at, dot}
 use Rattle.field.proofs.Dot.{dot-same}
 use Rattle.polynomial.specs.Polynomial.{prod}
 use Rattle.key_weights.specs.Inner.{away, behind, spread, scaledAt}
-use Rattle.key_values.specs.Inner.{Tables, Ready, shown, readAt, expected, agrees, AllAgreed, all, differs, curve, Interpolates}
+use Rattle.key_values.specs.Inner.{Tables, Ready, readAt, expected, agrees, AllAgreed, all, differs, curve, Interpolates}
 use Rattle.key_values.proofs.Curve.{lane, weight, position, wanted, same-test}
 
 -- tests that answer alike

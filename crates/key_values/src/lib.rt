@@ -3,11 +3,10 @@
 // Lagrange's weights in the barycentric form, worked out once for all four columns, with a depot in each lane.
 ghost use mathlib.Core.Path.{_≡_};
 ghost use mathlib.Core.List.{[]};
-ghost use Prim.Native.Nat.{_+_, _*_, _%_, _^_, _<_, _≤_};
+ghost use Prim.Native.Nat.{_+_, _*_, _^_, _<_, _≤_};
 ghost use lib.ListN.{length, getD};
 ghost use Rattle.base.specs.Fill.{tab};
 ghost use Rattle.base.specs.Matrix.{flat, Below};
-ghost use Rattle.field.specs.Dot.{at, dot};
 ghost use Rattle.key_weights.specs.Inner.{Depots};
 ghost use Rattle.key_values.specs.Inner.{Columns, Tables, Ready, shown, readAt, expected, agrees, Agreed, AllAgreed, depots, Interpolates};
 

@@ -1,6 +1,6 @@
 // Arithmetic modulo 257 in lanes: arrays of 16 or 32 numbers of 16 bits, worked on side by side and without a division.
 ghost use mathlib.Core.Path.{_≡_};
-ghost use Prim.Native.Nat.{ℕ, _+_, _*_, _/_, _%_, _<_, _≤_};
+ghost use Prim.Native.Nat.{_+_, _*_, _/_, _%_, _<_, _≤_};
 ghost use lib.ListN.{getD};
 ghost use Rattle.base.specs.Fill.{tab};
 ghost use Rattle.base.specs.Matrix.{Below};

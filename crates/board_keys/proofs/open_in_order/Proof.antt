@@ -1,5 +1,5 @@
 -- Each way out is one that the four openings have.
-use mathlib.Core.Path.{_≡_, sym, ap, _∙_}
+use mathlib.Core.Path.{sym, ap, _∙_}
 use mathlib.Core.Bool.{not}
 use native.Mathlib.Omega.{arith}
 use borrow.Author.Needs.{needs}
@@ -10,17 +10,31 @@ use Rattle.board_keys.proofs.Columns.{asked, ends-few, ends-differs, en
 use Rattle.board_keys.proofs.open_in_order.Statement.{statement}
 use Rattle.board_keys.proofs.open_in_order.Tie as tie
 
+-- the start, from where the members are counted
+abbrev start : tie.After-size → tie.Start
+start c = c .before .before .before
+
 size-requires : tie.Need-size-requires
 size-requires c κs = search needs
 
 returns : tie.Need-returns
-returns c = let s = c .before .before .before .before in ends-few (s .args .set) (s .args .shares .now) (s .args .key .now) (s .pre) _ (c .before .size .ensures .0) (c .if1 .taken)
+returns c =
+    let z = c .before in
+    let s = start z in
+    ends-few (s .args .set) (s .args .shares .now) (s .args .key .now) (s .pre) _ (z .size .ensures .0) (c .if1 .taken)
 
 interpolate-requires : tie.Need-interpolate-requires
-interpolate-requires c κs = let s = c .before .before .before .before in asked (s .args .set) (s .args .shares .now) (s .args .key .now) (s .pre) _ (c .before .size .ensures .0) (c .if1 .left)
+interpolate-requires c κs =
+    let z = c .before in
+    let s = start z in
+    asked (s .args .set) (s .args .shares .now) (s .args .key .now) (s .pre) _ (z .size .ensures .0) (c .if1 .left)
 
 returns-2 : tie.Need-returns-2
-returns-2 c = let s = c .before .before .before .before .before .before .before in ends-differs (s .args .set) (s .args .shares .now) (s .args .key .now) (s .pre) _ (c .before .before .before .before .size .ensures .0) (c .before .before .before .if1 .left) (c .before .before .interpolate .ensures) (c .if2 .taken)
+returns-2 c =
+    let f = c .before .before in
+    let z = f .before .before in
+    let s = start z in
+    ends-differs (s .args .set) (s .args .shares .now) (s .args .key .now) (s .pre) _ (z .size .ensures .0) (f .before .if1 .left) (f .interpolate .ensures) (c .if2 .taken)
 
 slice-aggregate-all-below : tie.Need-slice-aggregate-all-below
 slice-aggregate-all-below c = search needs
@@ -29,16 +43,37 @@ all-below-requires : tie.Need-all-below-requires
 all-below-requires c κs = search needs
 
 returns-3 : tie.Need-returns-3
-returns-3 c = let s = c .before .before .before .before .before .before .before .before .before .before in ends-no-byte (s .args .set) (s .args .shares .now) (s .args .key .now) (s .pre) _ (c .before .before .before .before .before .before .before .size .ensures .0) (c .before .before .before .before .before .before .if1 .left) (c .before .before .before .before .before .interpolate .ensures) (c .before .before .before .if2 .left) (ap not (sym (c .before .all-below .ensures)) ∙ c .if3 .taken)
+returns-3 c =
+    let b = c .before in
+    let d = b .before .before in
+    let f = d .before .before in
+    let z = f .before .before in
+    let s = start z in
+    ends-no-byte (s .args .set) (s .args .shares .now) (s .args .key .now) (s .pre) _ (z .size .ensures .0) (f .before .if1 .left) (f .interpolate .ensures)
+    (d .if2 .left) (ap not (sym (b .all-below .ensures)) ∙ c .if3 .taken)
 
 write-bytes-requires : tie.Need-write-bytes-requires
-write-bytes-requires c κs = let s = c .before .before .before .before .before .before .before .before .before .before .before in (openKey-ok (s .args .set) (s .args .shares .now) (s .args .key .now) (s .pre) .room, below-by 256 _ (omega arith) (sym (c .before .before .all-below .ensures) ∙ not-false _ (c .before .if3 .left)))
+write-bytes-requires c κs =
+    let b = c .before .before in
+    let s = start (b .before .before .before .before .before .before) in (
+      openKey-ok (s .args .set) (s .args .shares .now) (s .args .key .now) (s .pre) .room,
+      below-by 256 _ (omega arith) (sym (b .all-below .ensures) ∙ not-false _ (c .before .if3 .left)),
+    )
 
 same-length : tie.Need-same-length
 same-length c = search needs
 
 returns-4 : tie.Need-returns-4
-returns-4 c = let s = c .before .before .before .before .before .before .before .before .before .before .before .before .before .before in ends-key (s .args .set) (s .args .shares .now) (s .args .key .now) (s .pre) _ (c .before .before .before .before .before .before .before .before .before .before .before .size .ensures .0) (c .before .before .before .before .before .before .before .before .before .before .if1 .left) (c .before .before .before .before .before .before .before .before .before .interpolate .ensures) (c .before .before .before .before .before .before .before .if2 .left) (ap not (sym (c .before .before .before .before .before .all-below .ensures)) ∙ c .before .before .before .before .if3 .left) (c .before .before .write-bytes .ensures)
+returns-4 c =
+    let w = c .before .before in
+    let e = w .before .before in
+    let b = e .before in
+    let d = b .before .before in
+    let f = d .before .before in
+    let z = f .before .before in
+    let s = start z in
+    ends-key (s .args .set) (s .args .shares .now) (s .args .key .now) (s .pre) _ (z .size .ensures .0) (f .before .if1 .left) (f .interpolate .ensures)
+    (d .if2 .left) (ap not (sym (b .all-below .ensures)) ∙ e .if3 .left) (w .write-bytes .ensures)
 
 pub open-in-order-spec : {M : Type 1} → statement M
 open-in-order-spec =

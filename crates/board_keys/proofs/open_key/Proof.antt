@@ -1,7 +1,6 @@
 -- Where nothing is refused, what is opened from inputs in order is the opening.
-use mathlib.Core.Path.{_≡_, sym, _∙_}
+use mathlib.Core.Path.{sym, _∙_}
 use borrow.Author.Needs.{needs}
-use Rattle.base.specs.Rules.{refusal}
 use Rattle.base.proofs.Rules.{declined, unchanged}
 use Rattle.board_keys.proofs.open_key.Statement.{statement}
 use Rattle.board_keys.proofs.open_key.Tie as tie
@@ -13,7 +12,9 @@ same-length : tie.Need-same-length
 same-length c = search needs
 
 returns : tie.Need-returns
-returns c = let e = c .before .open-key-refusal .ensures in (rw (← e) (declined _ _ (c .if1 .taken)), rw (← e) (unchanged _ _ _ (c .if1 .taken)))
+returns c =
+    let e = c .before .open-key-refusal .ensures in
+    (rw (← e) (declined _ _ (c .if1 .taken)), rw (← e) (unchanged _ _ _ (c .if1 .taken)))
 
 open-in-order-requires : tie.Need-open-in-order-requires
 open-in-order-requires c κs = sym (c .before .before .open-key-refusal .ensures) ∙ c .before .if1 .left
@@ -22,7 +23,11 @@ same-length-2 : tie.Need-same-length-2
 same-length-2 c = search needs
 
 returns-2 : tie.Need-returns-2
-returns-2 c = let z = sym (c .before .before .before .before .before .open-key-refusal .ensures) ∙ c .before .before .before .before .if1 .left in (rw z (c .before .before .open-in-order .ensures .0), rw z (c .before .before .open-in-order .ensures .1))
+returns-2 c =
+    let o = c .before .before in
+    let p = o .before .before in
+    let z = sym (p .before .open-key-refusal .ensures) ∙ p .if1 .left in
+    (rw z (o .open-in-order .ensures .0), rw z (o .open-in-order .ensures .1))
 
 pub open-key-spec : {M : Type 1} → statement M
 open-key-spec =

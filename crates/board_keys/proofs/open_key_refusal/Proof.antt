@@ -1,6 +1,5 @@
 -- The rules on the one setup cannot apply.
 use mathlib.Core.Path.{sym, _∙_}
-use native.Mathlib.Omega.{arith}
 use borrow.Author.Needs.{needs}
 use Rattle.board_keys.proofs.Opened.{openKey-left}
 use Rattle.board_keys.proofs.open_key_refusal.Statement.{statement}

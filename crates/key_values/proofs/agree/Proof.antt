@@ -1,5 +1,5 @@
 -- The shares before place x are those expected.
-use Prim.Native.Nat.{ℕ, _+_, _-_, _*_, _%_, _≤_, _<_}
+use Prim.Native.Nat.{ℕ, _+_, _-_, _≤_, _<_}
 use mathlib.Core.Bool.{true}
 use mathlib.Core.Path.{_≡_, sym, _∙_}
 use native.Mathlib.Omega.{arith}
@@ -66,7 +66,14 @@ loop-less : tie.Need-loop-less Inv-loop μ-loop
 loop-less c = search needs
 
 loop-again : tie.Need-loop-again Inv-loop μ-loop
-loop-again c = (search needs, search needs, λ y l m. either y (c .before .before .before .before .before .loop .x) _ (λ e. rw e (eq-eqb _ _ (sym (c .before .times .ensures) ∙ c .if1 .left))) (λ h. c .before .before .before .before .before .loop .inv .2 y l (omega (arith, m, h))))
+loop-again c =
+    let l = c .before .before .before .before .before .loop in (
+      search needs,
+      search needs,
+      λ y m n. either y (l .x) _
+          (λ e. rw e (eq-eqb _ _ (sym (c .before .times .ensures) ∙ c .if1 .left)))
+          (λ h. l .inv .2 y m (omega (arith, n, h))),
+    )
 
 returns-2 : tie.Need-returns-2 Inv-loop μ-loop
 returns-2 c = all (λ y l m. c .before .loop .inv .2 y l (omega (arith, m, c .loop-test .left)))

@@ -1,24 +1,37 @@
 -- The columns before b agree.
 use Prim.Native.Nat.{ℕ, _+_, _-_, _*_, _≤_, _<_}
-use mathlib.Core.Bool.{Bool, true, false}
+use mathlib.Core.Bool.{true}
 use mathlib.Core.List.{[]}
-use mathlib.Core.Path.{_≡_, sym, ap, _∙_}
+use mathlib.Core.Path.{_≡_}
 use native.Mathlib.Nat.{mul-le-mul-right, suc-mul}
 use native.Mathlib.Omega.{arith}
 use borrow.Author.Needs.{needs}
-use lib.ListN.{getD}
+use lib.ListN.{length, getD}
 use Rattle.base.specs.Fill.{tab}
 use Rattle.base.proofs.Choice.{either}
-use Rattle.key_values.specs.Inner.{expected, agrees, Agreed, AllAgreed, all, differs}
+use Rattle.key_values.specs.Inner.{expected, agrees, all, differs}
 use Rattle.key_values.proofs.Laws.{fewer, agreed-no, agreed-yes}
 use Rattle.key_values.proofs.all_agree.Statement.{statement}
 use Rattle.key_values.proofs.all_agree.Tie as tie
 
 abbrev Inv-loop : tie.InvT-loop
-Inv-loop inverses weights scaled shares members k b₀ b = (b ≤ 4) × ((c x : ℕ) → c < b → 7 ≤ x → x < k → agrees (tab 16 (expected inverses members (getD scaled c []))) weights shares (c * k) members x ≡ true)
+Inv-loop inverses weights scaled shares members k b₀ b =
+    (b ≤ 4)
+    × ((c x : ℕ) → c < b → 7 ≤ x → x < k → agrees (tab 16 (expected inverses members (getD scaled c []))) weights shares (c * k) members x ≡ true)
 
 abbrev μ-loop : tie.MeasureT-loop
 μ-loop inverses weights scaled shares members k b₀ b = 4 - b
+
+-- column b lies in the list
+rows : (c : tie.After-expected Inv-loop μ-loop)
+    → let s = c .before .before .before .before .before .before .before in
+    let b = c .before .before .before .loop .b in
+    (b * s .args .k ≤ 48) × (b * s .args .k + s .args .k ≤ length (s .args .shares .now))
+rows c =
+    let s = c .before .before .before .before .before .before .before in
+    let m = mul-le-mul-right (s .args .k) (c .before .before .loop-test .taken) in
+    let e = suc-mul (c .before .before .before .loop .b) (s .args .k) in
+    (omega (arith, m, e, s .pre .0 .1), omega (arith, m, e, s .pre .0 .2))
 
 returns : tie.Need-returns Inv-loop μ-loop
 returns c = all (λ b x l m n. absurd (omega (arith, m, n, c .if1 .taken)))
@@ -36,12 +49,13 @@ expected-requires : tie.Need-expected-requires Inv-loop μ-loop
 expected-requires c κs = let s = c .before .before .before .before .before .before in (fewer (s .pre .1 .0) (s .pre .0 .0), (s .pre .1 .1 .0, s .pre .1 .1 .1 .1 .0 _))
 
 mul-agree : tie.Need-mul-agree Inv-loop μ-loop
-mul-agree c = omega (arith, mul-le-mul-right (c .before .before .before .before .before .before .before .args .k) (c .before .before .loop-test .taken), suc-mul (c .before .before .before .loop .b) (c .before .before .before .before .before .before .before .args .k), c .before .before .before .before .before .before .before .pre .0 .1)
+mul-agree c = let r = rows c in omega (arith, r .0, r .1)
 
 agree-requires : tie.Need-agree-requires Inv-loop μ-loop
 agree-requires c κs =
-    let s = c .before .before .before .before .before .before .before in
-    ((s .pre .0 .0, s .pre .0 .1, omega (arith, mul-le-mul-right (s .args .k) (c .before .before .loop-test .taken), suc-mul (c .before .before .before .loop .b) (s .args .k), s .pre .0 .1), omega (arith, mul-le-mul-right (s .args .k) (c .before .before .loop-test .taken), suc-mul (c .before .before .before .loop .b) (s .args .k), s .pre .0 .2)), (s .pre .1 .0, (s .pre .1 .1 .1 .1 .1, s .pre .1 .1 .1 .0)))
+    let p = c .before .before .before .before .before .before .before .pre in
+    let r = rows c in
+    ((p .0 .0, p .0 .1, omega (arith, r .0), omega (arith, r .1)), (p .1 .0, (p .1 .1 .1 .1 .1, p .1 .1 .1 .0)))
 
 returns-2 : tie.Need-returns-2 Inv-loop μ-loop
 returns-2 c =

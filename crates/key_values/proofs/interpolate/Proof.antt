@@ -21,7 +21,12 @@ slice-aggregate-interpolate-by : tie.Need-slice-aggregate-interpolate-by
 slice-aggregate-interpolate-by c = let w = c .before .before .before .before .walk .ensures in w .count ∙ ap length (sym (w .list))
 
 interpolate-by-requires : tie.Need-interpolate-by-requires
-interpolate-by-requires c κs = let s = c .before .before .before .before .before .before .before in (tables _ _ refl (unfold every in refl) (unfold every in refl) (unfold every allBelow in refl) (unfold every allBelow in refl), rw (c .before .before .before .before .walk .ensures .list) (ready _ _ (s .pre .0) (s .pre .1 .0 .0) (s .pre .1 .0 .1) (s .pre .1 .1)))
+interpolate-by-requires c κs =
+    let w = c .before .before .before .before in
+    let p = w .before .before .before .pre in (
+      tables _ _ refl (unfold every in refl) (unfold every in refl) (unfold every allBelow in refl) (unfold every allBelow in refl),
+      rw (w .walk .ensures .list) (ready _ _ (p .0) (p .1 .0 .0) (p .1 .0 .1) (p .1 .1)),
+    )
 
 returns : tie.Need-returns
 returns c = rw (c .before .before .before .before .before .walk .ensures .list) at (c .interpolate-by .ensures)

@@ -1,5 +1,5 @@
 -- The sums are reduced and multiplied, lane by lane.
-use Prim.Native.Nat.{ℕ, _*_, _/_, _%_}
+use Prim.Native.Nat.{_*_, _%_}
 use mathlib.Core.Path.{ap, _∙_}
 use native.Mathlib.Omega.{arith}
 use borrow.Author.Needs.{needs}
@@ -22,7 +22,12 @@ times16-requires : tie.Need-times16-requires
 times16-requires c κs = (lanes-below _ _ (c .folded16 .ensures), c .before .before .pre .1 .1)
 
 returns : tie.Need-returns
-returns c = c .times16 .ensures ∙ tab-ext 16 _ _ (λ i l. ap (λ z. z * at (c .before .before .before .args .products) i % 257) (ap (λ z. getD z i 0) (c .before .folded16 .ensures) ∙ getD-tab 16 _ 0 i l ∙ ap (λ z. getD z i 0 % 257) (c .before .before .sums .ensures) ∙ ap (λ z. z % 257) (getD-tab 16 _ 0 i l)))
+returns c =
+    let f = c .before in
+    c .times16 .ensures
+    ∙ tab-ext 16 _ _
+    (λ i l. ap (λ z. z * at (f .before .before .args .products) i % 257)
+    (ap (λ z. getD z i 0) (f .folded16 .ensures) ∙ getD-tab 16 _ 0 i l ∙ ap (λ z. getD z i 0 % 257) (f .before .sums .ensures) ∙ ap (λ z. z % 257) (getD-tab 16 _ 0 i l)))
 
 pub read-spec : {M : Type 1} → statement M
 read-spec = tie.close (tie.spec sums-requires folded16-requires times16-requires returns)

@@ -30,7 +30,14 @@ dots-requires-4 : tie.Need-dots-requires-4
 dots-requires-4 c κs = (c .before .before .before .before .before .before .before .pre .0 _, c .before .before .before .before .before .before .before .pre .1)
 
 returns : tie.Need-returns
-returns c = unfold tab tabFrom in rw (c .before .before .before .before .before .before .dots .ensures .0, c .before .before .before .before .before .before .dots .ensures .1 .0, c .before .before .before .before .before .before .dots .ensures .1 .1 .0, c .before .before .before .before .before .before .dots .ensures .1 .1 .1, c .before .before .before .before .dots2 .ensures .0, c .before .before .before .before .dots2 .ensures .1 .0, c .before .before .before .before .dots2 .ensures .1 .1 .0, c .before .before .before .before .dots2 .ensures .1 .1 .1, c .before .before .dots3 .ensures .0, c .before .before .dots3 .ensures .1 .0, c .before .before .dots3 .ensures .1 .1 .0, c .before .before .dots3 .ensures .1 .1 .1, c .dots4 .ensures .0, c .dots4 .ensures .1 .0, c .dots4 .ensures .1 .1 .0, c .dots4 .ensures .1 .1 .1) refl
+returns c =
+    let d = c .dots4 .ensures in
+    let third = c .before .before .dots3 .ensures in
+    let second = c .before .before .before .before .dots2 .ensures in
+    let first = c .before .before .before .before .before .before .dots .ensures in
+    unfold tab tabFrom in
+    rw (first .0, first .1 .0, first .1 .1 .0, first .1 .1 .1, second .0, second .1 .0, second .1 .1 .0, second .1 .1 .1)
+    (rw (third .0, third .1 .0, third .1 .1 .0, third .1 .1 .1, d .0, d .1 .0, d .1 .1 .0, d .1 .1 .1) refl)
 
 pub sums-spec : {M : Type 1} → statement M
 sums-spec =

@@ -1,10 +1,9 @@
 -- The first c lanes are written.
-use Prim.Native.Nat.{ℕ, _+_, _-_, _*_, _%_, _≤_, _<_}
-use mathlib.Core.Path.{_≡_, refl, sym, ap, _∙_}
+use Prim.Native.Nat.{_-_, _≤_}
+use mathlib.Core.Path.{_≡_, refl, _∙_}
 use native.Mathlib.Nat.{le-antisymm}
-use native.Mathlib.Omega.{arith}
 use borrow.Author.Needs.{needs}
-use lib.ListN.{length, getD}
+use lib.ListN.{length}
 use Rattle.base.specs.Fill.{filled}
 use Rattle.base.proofs.Fill.{filled-none, filled-store, filled-all}
 use Rattle.key_weights.specs.Inner.{behind}

@@ -1,10 +1,9 @@
 -- The first a shares stand at their places.
-use Prim.Native.Nat.{ℕ, _+_, _-_, _*_, _%_, _≤_, _<_}
-use mathlib.Core.Path.{_≡_, refl, sym, ap, _∙_}
+use Prim.Native.Nat.{_+_, _-_, _≤_}
+use mathlib.Core.Path.{_≡_}
 use native.Mathlib.Nat.{le-antisymm}
 use native.Mathlib.Omega.{arith}
 use borrow.Author.Needs.{needs}
-use lib.ListN.{length, getD}
 use Rattle.base.specs.Fill.{tab}
 use Rattle.field.specs.Dot.{at}
 use Rattle.key_weights.specs.Inner.{spread}
@@ -52,7 +51,10 @@ loop-less : tie.Need-loop-less Inv-loop μ-loop
 loop-less c = search needs
 
 loop-again : tie.Need-loop-again Inv-loop μ-loop
-loop-again c = (search needs, place-next (c .before .before .before .before .args .members .now) (c .before .before .before .before .pre .1) _ (c .before .before .before .loop .a) _ (c .before .before .loop-test .taken) (c .before .before .before .loop .inv .1))
+loop-again c =
+    let b = c .before .before .before in
+    let s = b .before in
+    (search needs, place-next (s .args .members .now) (s .pre .1) _ (b .loop .a) _ (c .before .before .loop-test .taken) (b .loop .inv .1))
 
 returns : tie.Need-returns Inv-loop μ-loop
 returns c = rw (le-antisymm (c .before .loop .inv .0) (c .loop-test .left)) at (c .before .loop .inv .1)

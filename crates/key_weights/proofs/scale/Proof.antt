@@ -1,10 +1,9 @@
 -- The first b columns are multiplied.
-use Prim.Native.Nat.{ℕ, _+_, _-_, _*_, _%_, _≤_, _<_}
-use mathlib.Core.Path.{_≡_, refl, sym, ap, _∙_}
+use Prim.Native.Nat.{_-_, _≤_}
+use mathlib.Core.Path.{_≡_, refl, _∙_}
 use native.Mathlib.Nat.{le-antisymm}
-use native.Mathlib.Omega.{arith}
 use borrow.Author.Needs.{needs}
-use lib.ListN.{length, getD}
+use lib.ListN.{length}
 use Rattle.base.specs.Fill.{filled}
 use Rattle.base.proofs.Fill.{filled-none, filled-store}
 use Rattle.key_weights.specs.Inner.{scaledAt}
@@ -31,7 +30,11 @@ array-copy-out-times16 : tie.Need-array-copy-out-times16 Inv-loop μ-loop
 array-copy-out-times16 c = search needs
 
 times16-requires : tie.Need-times16-requires Inv-loop μ-loop
-times16-requires c κs = let s = c .before .before .before .before .before .before in (placed-below (s .args .members .now) (s .args .shares .now) (s .args .k) (s .pre .1 .0) (s .pre .1 .1 .0) (c .before .before .before .place .ensures) _ (c .before .loop-test .taken), s .pre .1 .1 .1)
+times16-requires c κs =
+    let at-place = c .before .before .before in
+    let s = at-place .before .before .before in
+    let x = s .args in
+    (placed-below (x .members .now) (x .shares .now) (x .k) (s .pre .1 .0) (s .pre .1 .1 .0) (at-place .place .ensures) _ (c .before .loop-test .taken), s .pre .1 .1 .1)
 
 mul-r : tie.Need-mul-r Inv-loop μ-loop
 mul-r c = search needs
@@ -46,7 +49,13 @@ loop-less : tie.Need-loop-less Inv-loop μ-loop
 loop-less c = search needs
 
 loop-again : tie.Need-loop-again Inv-loop μ-loop
-loop-again c = let s = c .before .before .before .before .before .before .before in (search needs, c .before .before .before .loop .inv .1, filled-store _ _ _ _ _ (c .before .before .before .loop .inv .2) (c .times16 .ensures ∙ scaled-column (s .args .members .now) (s .args .shares .now) (s .args .k) (s .pre .1 .0) (s .pre .1 .1 .0) (c .before .before .before .before .place .ensures) _ (c .before .before .loop-test .taken) (s .args .weights)))
+loop-again c =
+    let l = c .before .before .before .loop in
+    let at-place = c .before .before .before .before in
+    let s = at-place .before .before .before in
+    let x = s .args in
+    let column = scaled-column (x .members .now) (x .shares .now) (x .k) (s .pre .1 .0) (s .pre .1 .1 .0) (at-place .place .ensures) _ in
+    (search needs, l .inv .1, filled-store _ _ _ _ _ (l .inv .2) (c .times16 .ensures ∙ column (c .before .before .loop-test .taken) (x .weights)))
 
 returns : tie.Need-returns Inv-loop μ-loop
 returns c = rw (le-antisymm (c .before .loop .inv .0) (c .loop-test .left)) at (c .before .loop .inv .2) ∙ four-filled _ _ (c .before .loop .inv .1)

@@ -1,11 +1,9 @@
 -- The first a members are multiplied in.
-use Prim.Native.Nat.{ℕ, _+_, _-_, _*_, _%_, _≤_, _<_}
-use mathlib.Core.Path.{_≡_, refl, sym, ap, _∙_}
+use Prim.Native.Nat.{_-_, _%_, _≤_}
+use mathlib.Core.Path.{_≡_, _∙_}
 use native.Mathlib.Nat.{le-antisymm}
 use native.Mathlib.Omega.{arith}
 use borrow.Author.Needs.{needs}
-use lib.ListN.{length, getD}
-use native.Mathlib.Nat.{mod-lt}
 use Rattle.base.specs.Fill.{tab}
 use Rattle.base.proofs.Matrix.{below-tab}
 use Rattle.field.specs.Dot.{at}
@@ -52,10 +50,21 @@ loop-less : tie.Need-loop-less Inv-loop μ-loop
 loop-less c = search needs
 
 loop-again : tie.Need-loop-again Inv-loop μ-loop
-loop-again c = (search needs, c .before .before .times16 .ensures ∙ factors-next (c .before .before .before .before .before .before .loop .a) (λ s. away (c .before .before .before .before .before .before .before .before .args .inverses .now) (at (c .before .before .before .before .before .before .before .before .args .members .now) s)) _ _ (c .before .before .before .before .before .before .loop .inv .1) (c .before .before .before .away-from .ensures), c .times162 .ensures ∙ factors-next (c .before .before .before .before .before .before .loop .a) (λ s. behind (at (c .before .before .before .before .before .before .before .before .args .members .now) s)) _ _ (c .before .before .before .before .before .before .loop .inv .2) (c .before .behind .ensures))
+loop-again c =
+    let x = c .before .before in
+    let b = x .before .before .before .before in
+    let ms = b .before .before .args .members .now in
+    let t = b .before .before .args .inverses .now in (
+      search needs,
+      x .times16 .ensures ∙ factors-next (b .loop .a) (λ s. away t (at ms s)) _ _ (b .loop .inv .1) (x .before .away-from .ensures),
+      c .times162 .ensures ∙ factors-next (b .loop .a) (λ s. behind (at ms s)) _ _ (b .loop .inv .2) (c .before .behind .ensures),
+    )
 
 returns : tie.Need-returns Inv-loop μ-loop
-returns c = (rw (le-antisymm (c .before .loop .inv .0) (c .loop-test .left)) at (c .before .loop .inv .1), rw (le-antisymm (c .before .loop .inv .0) (c .loop-test .left)) at (c .before .loop .inv .2))
+returns c =
+    let l = c .before .loop in
+    let e = le-antisymm (l .inv .0) (c .loop-test .left) in
+    (rw e at (l .inv .1), rw e at (l .inv .2))
 
 pub weigh-spec : {M : Type 1} → statement M
 weigh-spec =

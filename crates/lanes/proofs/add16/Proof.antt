@@ -1,5 +1,5 @@
 -- The first i lanes are the sums.
-use Prim.Native.Nat.{_+_, _-_, _*_, _%_, _≤_}
+use Prim.Native.Nat.{_+_, _-_, _*_, _≤_}
 use mathlib.Core.Path.{_≡_, refl, _∙_}
 use native.Mathlib.Nat.{le-antisymm}
 use native.Mathlib.Omega.{arith}
