@@ -1,41 +1,26 @@
--- The laws of a dealing's parts: what the code's products are, where F's entries lie, and that the parts are scheme's.
+-- The laws of a dealing's parts: where F's entries lie, and that the parts are scheme's.
 use Prim.Native.Nat.{ℕ, _+_, _-_, _*_, _/_, _%_, _≤_, _<_}
 use mathlib.Core.Path.{_≡_, refl, sym, ap, _∙_}
 use mathlib.Core.List.{List}
 use mathlib.Core.Bool.{Bool, true, false, _&&_}
-use native.Mathlib.Nat.{mul-le-mul, div-add-mod', add-assoc}
+use native.Mathlib.Nat.{div-add-mod', add-assoc}
 use native.Mathlib.Omega.{arith}
 use borrow.Author.Tests.{lt-ltb, le-ltb}
 use lib.Dec.{ltb}
 use lib.ListN.{length, getD}
 use Rattle.base.specs.Choice.{pick}
 use Rattle.base.specs.Fill.{tab, filled, laid}
-use Rattle.base.specs.Matrix.{entry, flat}
+use Rattle.base.specs.Matrix.{entry, flat, Below}
 use Rattle.base.proofs.Fill.{getD-tab, tab-ext, getD-filled, flat-at, laid-filled, laid-whole, filled-all}
-use Rattle.base.proofs.Matrix.{row-fits, entry-fits, place-at}
+use Rattle.base.proofs.Matrix.{entry-fits, place-at}
 use Rattle.field.specs.Dot.{at, dot, along}
 use Rattle.field.proofs.Dot.{dot-ext, dot-same}
 use Rattle.scheme.specs.Setup.{Setup, dim, row}
 use Rattle.scheme.specs.Dealing.{place, dealtEntry, dealt, partG, partH}
 use Rattle.scheme.proofs.Calls.{DealOk, limits-pos, below-vec}
-use Rattle.dealing.specs.Inner.{entryG, entryH, sized, Under}
-
--- F and its rows lie in the array
-pub square-fits : (d : ℕ) → d ≤ 16 → d * d ≤ 256
-square-fits d h = mul-le-mul {n₁ = d} {m₁ = d} {n₂ = 16} {m₂ = 16} h h
-
-pub square-row : (d k : ℕ) → d ≤ 16 → k < d → k * d + d ≤ 256
-square-row d k h l = omega (arith, row-fits d d k l, square-fits d h)
-
--- an entry of g runs along row i of the matrix and column b of F, an entry of h along row k of F and row i
-module _ (p d : ℕ) (m F : List ℕ) (i : ℕ) where
-  pub product-g : (b : ℕ) → dot d (along m (i * d) 1) (along F b d) % p ≡ entryG p d m F i b
-  unfolding entryG
-  product-g b = ap (λ z. z % p) (dot-same d _ _ _ _ (λ k l. ap (λ t. getD m t 0) (omega arith)) (λ k l. ap (λ t. getD F t 0) (omega arith)))
-
-  pub product-h : (k : ℕ) → dot d (along F (k * d) 1) (along m (i * d) 1) % p ≡ entryH p d m F i k
-  unfolding entryH
-  product-h k = ap (λ z. z % p) (dot-same d _ _ _ _ (λ b l. ap (λ t. getD F t 0) (omega arith)) (λ b l. ap (λ t. getD m t 0) (omega arith)))
+use Rattle.parts.specs.Inner.{entryH, entryG}
+use Rattle.parts.proofs.Parts.{square-fits, below-filled}
+use Rattle.dealing.specs.Inner.{sized}
 
 -- F by rows: secrets and e random entries in a row below ℓ, then random entries alone
 module _ (l e : ℕ) (secrets random : List ℕ) where
@@ -81,9 +66,9 @@ module _ (l e : ℕ) (secrets random : List ℕ) where
             ∙ ap F (omega (arith, s))
 
 -- an entry of F is one of the lent ones, or 0 past their ends
-entry-under : (S : Setup) (secrets random : List ℕ) → DealOk S secrets random → (k b : ℕ) → dealtEntry (sized (S .l) (S .e)) secrets random k b < S .p
+entry-below : (S : Setup) (secrets random : List ℕ) → DealOk S secrets random → (k b : ℕ) → dealtEntry (sized (S .l) (S .e)) secrets random k b < S .p
 unfolding dealtEntry
-entry-under S secrets random ok k b = go (ltb k (S .l) && ltb b (S .l)) _ _
+entry-below S secrets random ok k b = go (ltb k (S .l) && ltb b (S .l)) _ _
   where
     pos : 0 < S .p
     pos = limits-pos S (ok .setup .limits)
@@ -105,10 +90,8 @@ module _
         ∙ getD-filled _ (dim S * dim S) z _ 0 w (omega (arith, square-fits (dim S) small))
         ∙ sym (getD-tab (dim S * dim S) _ 0 _ w)
 
-    pub dealt-under : DealOk S secrets random → Under (S .p) (dim S * dim S) F
-    dealt-under ok t l =
-        rw (is, getD-filled (flat (dim S) (dealtEntry (sized (S .l) (S .e)) secrets random)) (dim S * dim S) z t 0 l (omega (arith, square-fits (dim S) small)))
-        (entry-under S secrets random ok (t / dim S) (t % dim S))
+    pub dealt-below : DealOk S secrets random → Below (S .p) z → Below (S .p) F
+    dealt-below ok zeros = rw is (below-filled (S .p) _ _ z (limits-pos S (ok .setup .limits)) (λ t l. entry-below S secrets random ok (t / dim S) (t % dim S)) zeros)
 
     entry-g : (i b : ℕ) → b < dim S → entryG (S .p) (dim S) (S .M) F i b ≡ dot (dim S) (row S i) (λ k. entry (dim S) (dealt S secrets random) k b) % S .p
     unfolding entryG

@@ -1,7 +1,7 @@
-// Arithmetic modulo 257 in lanes: arrays of 16 or 32 numbers of 16 bits, worked on side by side and without a division.
+// Arithmetic in lanes: arrays of 8, 16 or 32 numbers, worked on side by side and without a division. Entries are below 257, and remainders modulo 257.
 ghost use mathlib.Core.Path.{_≡_};
 ghost use Prim.Native.Nat.{_+_, _*_, _/_, _%_, _<_, _≤_};
-ghost use lib.ListN.{getD};
+ghost use lib.ListN.{length, getD};
 ghost use Rattle.base.specs.Fill.{tab};
 ghost use Rattle.base.specs.Matrix.{Below};
 
@@ -64,6 +64,22 @@ pub fn add16(sums: [u32; 16], x: u16, a: [u16; 16]) -> [u32; 16]
     while i < 16 {
         r[i] = plus(sums[i], x, a[i]);
         i += 1;
+    }
+    r
+}
+
+// x times eight entries of a, from `at` on, is added in 8 lanes.
+pub fn add8(sums: [u32; 8], x: u16, a: &[u16], at: usize) -> [u32; 8]
+    requires { ⌜ (x ≤ 256) × (at + 8 ≤ length (now a)) ⌝ }
+    requires { ⌜ Below 1048577 sums ⌝ }
+    requires { ⌜ Below 257 (now a) ⌝ }
+    ensures { λ r. ⌜ r ≡ tab 8 (λ t. getD sums t 0 + x * getD (now (a .entry)) (at + t) 0) ⌝ }
+{
+    let mut r = [0u32; 8];
+    let mut t = 0;
+    while t < 8 {
+        r[t] = sums[t] + (x as u32) * (a[at + t] as u32);
+        t += 1;
     }
     r
 }

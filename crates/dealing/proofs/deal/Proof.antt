@@ -45,11 +45,11 @@ fill-dealt-requires c κs =
       square = refl;
     }
 
-slice-aggregate-write-g : tie.Need-slice-aggregate-write-g
-slice-aggregate-write-g c = search needs
+slice-aggregate-write-h : tie.Need-slice-aggregate-write-h
+slice-aggregate-write-h c = search needs
 
-write-g-requires : tie.Need-write-g-requires
-write-g-requires c κs =
+write-h-requires : tie.Need-write-h-requires
+write-h-requires c κs =
     let e = c .before .before .before .before .before .before in
     let x = e .before .before .before .before .before .before .before .before .before .args in
     let z = sym (e .before .deal-refusal .ensures) ∙ e .if1 .left in
@@ -61,14 +61,14 @@ write-g-requires c κs =
       small = omega (arith, ok .0 .setup .limits .secret, ok .0 .setup .limits .random, d);
       row = rw d (omega (arith, w, ok .0 .setup .matrix .size));
       square = ap length (c .before .before .before .fill-dealt .ensures) ∙ length-filled _ _ _;
-      fits = omega (arith, ok .1, d);
+      fits = omega (arith, ok .2, d);
     }
 
-slice-aggregate-write-h : tie.Need-slice-aggregate-write-h
-slice-aggregate-write-h c = search needs
+slice-aggregate-write-g : tie.Need-slice-aggregate-write-g
+slice-aggregate-write-g c = search needs
 
-write-h-requires : tie.Need-write-h-requires
-write-h-requires c κs =
+write-g-requires : tie.Need-write-g-requires
+write-g-requires c κs =
     let e = c .before .before .before .before .before .before .before .before .before .before .before in
     let x = e .before .before .before .before .before .before .before .before .before .args in
     let z = sym (e .before .deal-refusal .ensures) ∙ e .if1 .left in
@@ -80,7 +80,7 @@ write-h-requires c κs =
       small = omega (arith, ok .0 .setup .limits .secret, ok .0 .setup .limits .random, d);
       row = rw d (omega (arith, w, ok .0 .setup .matrix .size));
       square = ap length (c .before .before .before .before .before .before .before .before .fill-dealt .ensures) ∙ length-filled _ _ _;
-      fits = omega (arith, ok .2, d);
+      fits = omega (arith, ok .1, d);
     }
 
 same-length-3 : tie.Need-same-length-3
@@ -102,8 +102,8 @@ returns-2 c =
     rw z (
       refl,
       (
-        rw d at (c .before .before .before .before .before .before .before .write-g .ensures) ∙ deal-g S _ _ _ _ few refl F (x .holder) (x .g .now) (ok .1),
-        rw d at (c .before .before .write-h .ensures) ∙ deal-h S _ _ _ _ few refl F (x .holder) (x .h .now) (ok .2),
+        rw d at (c .before .before .write-g .ensures) ∙ deal-g S _ _ _ _ few refl F (x .holder) (x .g .now) (ok .1),
+        rw d at (c .before .before .before .before .before .before .before .write-h .ensures) ∙ deal-h S _ _ _ _ few refl F (x .holder) (x .h .now) (ok .2),
       ),
     )
 
@@ -118,10 +118,10 @@ deal-spec =
     dim-requires
     slice-aggregate-fill-dealt
     fill-dealt-requires
-    slice-aggregate-write-g
-    write-g-requires
     slice-aggregate-write-h
     write-h-requires
+    slice-aggregate-write-g
+    write-g-requires
     same-length-3
     same-length-4
     returns-2)

@@ -7,8 +7,9 @@ use lib.ListN.{length}
 use Rattle.base.proofs.Fill.{length-filled}
 use Rattle.scheme.specs.Setup.{setupOf}
 use Rattle.base.proofs.Rules.{declined, unchanged}
-use Rattle.scheme.proofs.Calls.{dealAll-ok, limits-pos}
-use Rattle.dealing.proofs.Parts.{dealt-under, all-g, all-h}
+use Rattle.scheme.proofs.Calls.{dealAll-ok, limits-pos, below-vec}
+use Rattle.parts.proofs.Parts.{below-zeros}
+use Rattle.dealing.proofs.Parts.{dealt-below, all-g, all-h}
 use Rattle.dealing.proofs.deal_all.Statement.{statement}
 use Rattle.dealing.proofs.deal_all.Tie as tie
 
@@ -58,18 +59,18 @@ write-all-requires c κs =
     let ok = dealAll-ok (setupOf (x .s) (x .matrix .now)) (x .secrets .now) (x .random .now) (x .gs .now) (x .hs .now) z in
     let d = c .before .before .before .before .before .before .before .dim .ensures .0 in
     let few : x .s .l + x .s .e ≤ 16 = omega (arith, ok .0 .setup .limits .secret, ok .0 .setup .limits .random) in
-    let F = c .before .before .before .before .before .fill-dealt .ensures in (
+    let F = c .before .before .before .before .before .fill-dealt .ensures in
+    let pos = limits-pos _ (ok .0 .setup .limits) in (
+      record {
+        above = pos;
+        small = omega (arith, few, d);
+        rows = rw d (ok .0 .setup .matrix .size);
+        square = ap length F ∙ length-filled _ _ _;
+        fits = (rw d (ok .1), rw d (ok .2));
+      },
       (
-        limits-pos _ (ok .0 .setup .limits),
-        omega (arith, few, d),
-        rw d (ok .0 .setup .matrix .size),
-        ap length F ∙ length-filled _ _ _,
-        rw d (ok .1),
-        rw d (ok .2),
-      ),
-      (
-        λ k l. ok .0 .setup .matrix .small k (rw d at l),
-        (λ k l. dealt-under (setupOf (x .s) (x .matrix .now)) _ _ _ _ few refl F (ok .0) k (rw d at l), ok .0 .setup .limits .field),
+        below-vec (x .s .p) _ (x .matrix .now) pos (ok .0 .setup .matrix),
+        (dealt-below (setupOf (x .s) (x .matrix .now)) _ _ _ _ few refl F (ok .0) (below-zeros (x .s .p) 256 pos), ok .0 .setup .limits .field),
       ),
     )
 

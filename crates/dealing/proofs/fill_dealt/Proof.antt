@@ -11,7 +11,8 @@ use Rattle.base.proofs.Matrix.{row-fits}
 use Rattle.base.proofs.Fill.{filled-none, length-laid}
 use Rattle.scheme.specs.Dealing.{dealtEntry}
 use Rattle.dealing.specs.Inner.{sized}
-use Rattle.dealing.proofs.Parts.{square-fits, row-begun, row-ended, rest-ended}
+use Rattle.parts.proofs.Parts.{square-fits}
+use Rattle.dealing.proofs.Parts.{row-begun, row-ended, rest-ended}
 use Rattle.dealing.proofs.fill_dealt.Statement.{statement}
 use Rattle.dealing.proofs.fill_dealt.Tie as tie
 

@@ -1,0 +1,242 @@
+-- The laws of parts: what a product is an entry of, and lists written holder by holder or eight holders at a time.
+-- Begun: the first j entries of each of c rows of d, from place a on, are those of e, and all outside the rows is as it was
+use Prim.Native.Nat.{ℕ, _+_, _-_, _*_, _/_, _%_, _≤_, _<_}
+use mathlib.Core.Path.{_≡_, refl, sym, ap, _∙_}
+use mathlib.Core.Bool.{true}
+use mathlib.Core.List.{List}
+use mathlib.Core.Logic.{inl, inr, ⊎-elim}
+use native.Mathlib.Nat.{mul-le-mul, mul-le-mul-right, div-add-mod'}
+use native.Mathlib.Decide.{decLt}
+use native.Mathlib.Omega.{arith}
+use borrow.Author.Tests.{lt-ltb, le-ltb}
+use lib.Arith.{digits-mod}
+use lib.Dec.{ltb}
+use lib.ListN.{length, getD, set, length-set, replicate, length-replicate, getD-replicate, List·getD-eq-default}
+use lib.Seq.{ext-getD, getD-set-same, getD-set-other}
+use Rattle.base.specs.Choice.{pick}
+use Rattle.base.specs.Fill.{tab, laid, filled}
+use Rattle.base.specs.Matrix.{entry, flat, Below}
+use Rattle.base.proofs.Choice.{either}
+use Rattle.base.proofs.Fill.{Outside, getD-tab, tab-ext, length-laid, laid-in, laid-out, laid-none, laid-parts, length-filled, getD-filled, getD-filled-past, flat-at, laid-filled}
+use Rattle.base.proofs.Matrix.{row-fits, entry-fits, rows-apart, below-set, below-tab, place-at}
+use Rattle.field.specs.Fields.{isField}
+use Rattle.field.specs.Dot.{at, dot, along}
+use Rattle.field.proofs.Fields.{five-elim, field-five}
+use Rattle.field.proofs.Dot.{dot-step, dot-same, dot-comm, dot-le}
+use Rattle.lanes.proofs.Laws.{product-le}
+use Rattle.parts.specs.Inner.{entryH, entryG, past, lane, laneEntry, Column, Held, Put}
+
+-- ROOM
+-- F and its rows lie in the array
+pub square-fits : (d : ℕ) → d ≤ 16 → d * d ≤ 256
+square-fits d h = mul-le-mul {n₁ = d} {m₁ = d} {n₂ = 16} {m₂ = 16} h h
+
+pub square-row : (d k : ℕ) → d ≤ 16 → k < d → k * d + d ≤ 256
+square-row d k h l = omega (arith, row-fits d d k l, square-fits d h)
+
+pub rows-fit : (d i c n : ℕ) → i + c ≤ n → i * d + c * d ≤ n * d
+rows-fit d i c n h = omega (arith, mul-le-mul-right d h)
+
+-- the one field above 257
+pub largest : (p : ℕ) → isField p ≡ true → 257 < p → p ≡ 65521
+largest p e = five-elim p (λ q. 257 < q → q ≡ 65521) (λ l. absurd (omega arith)) (λ l. absurd (omega arith)) (λ l. absurd (omega arith)) (λ l. absurd (omega arith)) (λ l. refl) (field-five p e)
+
+-- past the end stands 0, so p is above 0
+pub below-zeros : (p n : ℕ) → 0 < p → Below p (replicate n 0)
+below-zeros p n pos k = go (decLt k n)
+  where
+    go : Dec (k < n) → getD (replicate n 0) k 0 < p
+    go (yes l) = rw (getD-replicate {A = ℕ} n k 0 0 l) pos
+    go (no l) = rw (List·getD-eq-default {A = ℕ} (replicate n 0) 0 {n = k} (omega (arith, length-replicate {A = ℕ} n 0))) pos
+
+pub below-filled : (p : ℕ) (f : ℕ → ℕ) (n : ℕ) (l : List ℕ) → 0 < p → ((k : ℕ) → k < n → f k < p) → Below p l → Below p (filled f n l)
+below-filled p f n l pos h all k = go (decLt k n) (decLt k (length l))
+  where
+    go : Dec (k < n) → Dec (k < length l) → getD (filled f n l) k 0 < p
+    go (yes m) (yes q) = rw (getD-filled f n l k 0 m q) (h k m)
+    go (yes m) (no q) = rw (List·getD-eq-default (filled f n l) 0 {n = k} (omega (arith, length-filled f n l))) pos
+    go (no m) q = rw (getD-filled-past f n l k 0 (omega arith)) (all k)
+
+-- ONE HOLDER
+-- an entry of h runs along row i of the matrix and row k of F, an entry of g along row i and column b of F
+module _ (p d : ℕ) (m F : List ℕ) (i : ℕ) where
+  pub product-h : (k : ℕ) → dot d (along m (i * d) 1) (along F (k * d) 1) % p ≡ entryH p d m F i k
+  unfolding entryH
+  product-h k =
+      ap (λ z. z % p)
+      (dot-comm d (along m (i * d) 1) (along F (k * d) 1)
+      ∙ dot-same d _ _ _ _ (λ b l. ap (λ t. getD F t 0) (omega arith)) (λ b l. ap (λ t. getD m t 0) (omega arith)))
+
+  pub product-g : (b : ℕ) → dot d (along m (i * d) 1) (along F b d) % p ≡ entryG p d m F i b
+  unfolding entryG
+  product-g b = ap (λ z. z % p) (dot-same d _ _ _ _ (λ k l. ap (λ t. getD m t 0) (omega arith)) (λ k l. ap (λ t. getD F t 0) (omega arith)))
+
+-- ONE HOLDER AFTER THE OTHER
+module _ (d : ℕ) (e : ℕ → ℕ → ℕ) (i : ℕ) where
+  pub past-none : (l : List ℕ) → l ≡ past d e i i l
+  unfolding past
+  past-none l = let z : i * d - i * d ≡ 0 = omega arith in rw z (laid-none _ _ l)
+
+  pub past-row : (k : ℕ) (x l : List ℕ) → i ≤ k → l ≡ past d e i k x → laid (e k) (k * d) d l ≡ past d e i (k + 1) x
+  unfolding past
+  past-row k x l h q =
+      let w : i * d ≤ k * d = mul-le-mul-right d h in
+      let a : k * d ≡ i * d + (k * d - i * d) = omega (arith, w) in
+      let b : k * d - i * d + d ≡ (k + 1) * d - i * d = omega (arith, w) in
+      rw q
+      (ap (λ t. laid (e k) t d (laid (λ t. flat d e (i * d + t)) (i * d) (k * d - i * d) x)) a
+      ∙ laid-parts (λ t. flat d e (i * d + t)) (e k) (i * d) (k * d - i * d) d x (λ j m. flat-at d e k j m ∙ ap (flat d e) (omega (arith, w)))
+      ∙ ap (λ n. laid (λ t. flat d e (i * d + t)) (i * d) n x) b)
+
+  pub past-filled : (n : ℕ) (x l : List ℕ) → i ≤ n → l ≡ filled (flat d e) (i * d) x → past d e i n l ≡ filled (flat d e) (n * d) x
+  unfolding past
+  past-filled n x l h q =
+      let w : i * d ≤ n * d = mul-le-mul-right d h in
+      laid-filled _ (flat d e) (i * d) (n * d - i * d) x l q (λ j m. refl) ∙ ap (λ t. filled (flat d e) t x) (omega (arith, w))
+
+-- SUMS IN LANES
+module _ (columns : List ℕ) (v : ℕ → ℕ) where
+  pub lanes-below : (k : ℕ) (sums : List ℕ) → Below 257 columns → ((j : ℕ) → v j < 257) → k ≤ 16 → sums ≡ tab 8 (λ t. dot k (lane columns t) v) → Below 1048577 sums
+  lanes-below k sums h g l e =
+      rw e (below-tab 1048577 8 _ (omega arith) (λ t m. omega (arith, dot-le k 65536 (lane columns t) v (λ j q. product-le _ _ (h _) (g j)))))
+
+  pub lanes-step : (k : ℕ) (sums next : List ℕ) → sums ≡ tab 8 (λ t. dot k (lane columns t) v)
+      → next ≡ tab 8 (λ t. getD sums t 0 + v k * at columns (8 * k + t)) → next ≡ tab 8 (λ t. dot (k + 1) (lane columns t) v)
+  lanes-step k sums next e n =
+      n ∙ tab-ext 8 _ _ (λ t l. rw (e, getD-tab 8 (λ t. dot k (lane columns t) v) 0 t l, dot-step k (lane columns t) v) (omega arith))
+
+pub reduced : (p : ℕ) (u : ℕ → ℕ) (sums entries : List ℕ) → sums ≡ tab 8 u → entries ≡ tab 8 (λ t. getD sums t 0 % p) → (t : ℕ) → t < 8 → at entries t ≡ u t % p
+reduced p u sums entries e q t l = rw q (getD-tab 8 (λ t. getD sums t 0 % p) 0 t l ∙ ap (λ n. n % p) (rw e (getD-tab 8 u 0 t l)))
+
+-- COLUMNS
+module _ (c : ℕ) (u : ℕ → ℕ) (a : ℕ) (x : List ℕ) where
+  pub column-none : Column 0 c u a x x
+  column-none = record { size = refl; written = λ t l. absurd (omega arith); kept = λ k l. refl; small = λ h. h }
+
+  pub column-lane : (r : ℕ) (l : List ℕ) → a + r < length x → u r < 257 → Column r c u a x l → Column (r + 1) c u a x (set l (a + r) (u r))
+  column-lane r l f s w =
+      record {
+        size = length-set l (a + r) _ ∙ w .size;
+        written = λ t h m.
+            either t r (at (set l (a + r) (u r)) (a + t) ≡ u t)
+            (λ q. rw q (getD-set-same l (a + r) _ 0 (omega (arith, w .size))))
+            (λ q. getD-set-other l (a + r) (a + t) _ 0 (λ z. q (omega arith)) ∙ w .written t (omega (arith, q)) m);
+        kept = λ k h. getD-set-other l (a + r) k _ 0 (λ z. absurd (omega arith)) ∙ w .kept k h;
+        small = λ h. below-set 257 l (a + r) (u r) s (w .small h);
+      }
+
+  pub column-left : (r : ℕ) (l : List ℕ) → c ≤ r → Column r c u a x l → Column (r + 1) c u a x l
+  column-left r l h w = record { size = w .size; written = λ t q m. w .written t (omega arith) m; kept = w .kept; small = w .small }
+
+module _ (d : ℕ) (m : List ℕ) (i c : ℕ) where
+  pub held-none : (l : List ℕ) → length l ≡ 128 → Below 257 l → Held 0 d m i c l
+  held-none l e h = record { size = e; small = h; right = λ t k l q. absurd (omega arith) }
+
+  pub held-column : (r : ℕ) (x l : List ℕ) → c ≤ 8 → Held r d m i c x → Column 8 c (along m (i * d + r) d) (8 * r) x l → Held (r + 1) d m i c l
+  held-column r x l few h w =
+      record {
+        size = w .size ∙ h .size;
+        small = w .small (h .small);
+        right = λ t k q s.
+            either k r (lane l t k ≡ entry d m (i + t) k)
+            (λ z. rw z (w .written t (omega arith) q ∙ ap (λ n. getD m n 0) (omega arith)))
+            (λ z. w .kept (8 * k + t) (omega (arith, z)) ∙ h .right t k q (omega (arith, z)));
+      }
+
+-- ENTRIES PUT APART
+module _ (d a : ℕ) (entries x : List ℕ) where
+  pub put-none : Put d 0 a entries x x
+  put-none = record { size = refl; written = λ t l. absurd (omega arith); kept = λ k h. refl }
+
+  pub put-step : (r : ℕ) (l : List ℕ) → 0 < d → a + r * d < length x → Put d r a entries x l → Put d (r + 1) a entries x (set l (a + r * d) (at entries r))
+  put-step r l pos f w =
+      record {
+        size = length-set l (a + r * d) _ ∙ w .size;
+        written = λ t h.
+            either t r (at (set l (a + r * d) (at entries r)) (a + t * d) ≡ at entries t)
+            (λ q. rw q (getD-set-same l (a + r * d) _ 0 (omega (arith, w .size))))
+            (λ q.
+            getD-set-other l (a + r * d) (a + t * d) _ 0 (λ z. ⊎-elim (λ s. absurd (omega (arith, z, s))) (λ s. absurd (omega (arith, z, s))) (rows-apart d t r q))
+            ∙ w .written t (omega (arith, q)));
+        kept = λ k h. getD-set-other l (a + r * d) k _ 0 (h r (omega arith)) ∙ w .kept k (λ t q. h t (omega arith));
+      }
+
+-- ROWS, ONE ENTRY OF EACH AFTER THE OTHER
+pub record Begun (d c a : ℕ) (e : ℕ → ℕ → ℕ) (j : ℕ) (before after : List ℕ) : Type 0 where
+  pub size : length after ≡ length before
+  pub right : (t b : ℕ) → t < c → b < j → at after (a + (t * d + b)) ≡ e t b
+  pub kept : (k : ℕ) → Outside a (c * d) k → at after k ≡ at before k
+
+module _ (d c a : ℕ) (e : ℕ → ℕ → ℕ) (x : List ℕ) where
+  pub begun-none : Begun d c a e 0 x x
+  begun-none = record { size = refl; right = λ t b l m. absurd (omega arith); kept = λ k h. refl }
+
+  pub begun-put : (j : ℕ) (entries l r : List ℕ) → j < d → Begun d c a e j x l → Put d c (a + j) entries l r
+      → ((t : ℕ) → t < c → at entries t ≡ e t j) → Begun d c a e (j + 1) x r
+  begun-put j entries l r f w u s =
+      record {
+        size = u .size ∙ w .size;
+        right = λ t b h m.
+            either b j (at r (a + (t * d + b)) ≡ e t b)
+            (λ q. rw q (ap (at r) (omega arith) ∙ u .written t h ∙ s t h))
+            (λ q.
+            u .kept (a + (t * d + b))
+            (λ v g z. q (sym (digits-mod t {r = b} (omega arith)) ∙ ap (λ n. n % d) (omega (arith, z)) ∙ digits-mod v {r = j} f))
+            ∙ w .right t b h (omega (arith, q)));
+        kept = λ k h.
+            u .kept k (λ t g z. ⊎-elim (λ o. absurd (omega (arith, z, o))) (λ o. absurd (omega (arith, z, o, entry-fits c d t j g f))) h)
+            ∙ w .kept k h;
+      }
+
+  pub begun-all : (l : List ℕ) → a + c * d ≤ length x → Begun d c a e d x l → l ≡ laid (flat d e) a (c * d) x
+  begun-all l fits w = ext-getD 0 l _ (w .size ∙ sym (length-laid _ a (c * d) x)) (λ k m. go k (decLt k a) (decLt k (a + c * d)))
+    where
+      inside : (k u : ℕ) → k ≡ a + u → u < c * d → getD l k 0 ≡ getD (laid (flat d e) a (c * d) x) k 0
+      inside k u q m =
+          let v = place-at d c u m in
+          ap (at l) (q ∙ ap (λ n. a + n) (sym (div-add-mod' u d))) ∙ w .right (u / d) (u % d) (v .1) (v .2)
+          ∙ sym (ap (λ k. getD (laid (flat d e) a (c * d) x) k 0) q ∙ laid-in (flat d e) a (c * d) x u 0 fits m)
+
+      go : (k : ℕ) → Dec (k < a) → Dec (k < a + c * d) → getD l k 0 ≡ getD (laid (flat d e) a (c * d) x) k 0
+      go k (yes b) q = w .kept k (inl b) ∙ sym (laid-out _ a (c * d) x k 0 (inl b))
+      go k (no b) (yes q) = inside k (k - a) (omega arith) (omega arith)
+      go k (no b) (no q) = w .kept k (inr (omega arith)) ∙ sym (laid-out _ a (c * d) x k 0 (inr (omega arith)))
+
+-- EIGHT HOLDERS
+-- some of those that are left, if any are, and no more than eight
+pub few-lanes : (left c : ℕ) → c ≡ pick (ltb left 8) left 8 → (c ≤ 8) × (c ≤ left) × (0 < left → 0 < c)
+few-lanes left c e = rw e (go (decLt left 8))
+  where
+    go : Dec (left < 8) → (pick (ltb left 8) left 8 ≤ 8) × (pick (ltb left 8) left 8 ≤ left) × (0 < left → 0 < pick (ltb left 8) left 8)
+    go (yes l) = rw (lt-ltb left 8 l) (omega arith, omega arith, λ h. h)
+    go (no l) = rw (le-ltb left 8 (omega arith)) (omega arith, omega arith, λ h. omega arith)
+
+module _ (p d : ℕ) (m F : List ℕ) (i c : ℕ) (columns : List ℕ) (held : Held d d m i c columns) where
+  lane-h : (t j : ℕ) → t < c → laneEntry p d columns F d 1 t j ≡ entryH p d m F (i + t) j
+  unfolding laneEntry entryH
+  lane-h t j l =
+      ap (λ z. z % p)
+      (dot-comm d (lane columns t) (along F (j * d) 1)
+      ∙ dot-same d _ _ _ _ (λ b h. ap (λ n. getD F n 0) (omega arith)) (λ b h. held .right t b l h))
+
+  lane-g : (t j : ℕ) → t < c → laneEntry p d columns F 1 d t j ≡ entryG p d m F (i + t) j
+  unfolding laneEntry entryG
+  lane-g t j l = ap (λ z. z % p) (dot-same d _ _ _ _ (λ k h. held .right t k l h) (λ k h. ap (λ n. getD F n 0) (omega arith)))
+
+  rows-more : (f e : ℕ → ℕ → ℕ) → ((t j : ℕ) → t < c → f t j ≡ e (i + t) j) → (x l : List ℕ) → l ≡ filled (flat d e) (i * d) x
+      → laid (flat d f) (i * d) (c * d) l ≡ filled (flat d e) ((i + c) * d) x
+  rows-more f e s x l q =
+      laid-filled (flat d f) (flat d e) (i * d) (c * d) x l q
+      (λ u h.
+      let v = place-at d c u h in
+      let y : u / d * d + u % d ≡ u = div-add-mod' u d in
+      s (u / d) (u % d) (v .1) ∙ flat-at d e (i + u / d) (u % d) (v .2) ∙ ap (flat d e) (omega (arith, y)))
+      ∙ ap (λ n. filled (flat d e) n x) (omega arith)
+
+  pub more-h : (x l : List ℕ) → l ≡ filled (flat d (entryH p d m F)) (i * d) x
+      → laid (flat d (laneEntry p d columns F d 1)) (i * d) (c * d) l ≡ filled (flat d (entryH p d m F)) ((i + c) * d) x
+  more-h = rows-more (laneEntry p d columns F d 1) (entryH p d m F) lane-h
+
+  pub more-g : (x l : List ℕ) → l ≡ filled (flat d (entryG p d m F)) (i * d) x
+      → laid (flat d (laneEntry p d columns F 1 d)) (i * d) (c * d) l ≡ filled (flat d (entryG p d m F)) ((i + c) * d) x
+  more-g = rows-more (laneEntry p d columns F 1 d) (entryG p d m F) lane-g

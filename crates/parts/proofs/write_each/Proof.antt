@@ -1,0 +1,96 @@
+-- The parts of the holders from `first` to i are written, each at its place.
+use Prim.Native.Nat.{_-_, _*_, _≤_}
+use mathlib.Core.Path.{_≡_, refl, ap, _∙_}
+use native.Mathlib.Nat.{le-antisymm}
+use native.Mathlib.Omega.{arith}
+use borrow.Author.Needs.{needs}
+use lib.ListN.{length}
+use Rattle.base.proofs.Matrix.{row-fits}
+use Rattle.base.proofs.Fill.{length-laid}
+use Rattle.parts.specs.Inner.{entryH, entryG, past}
+use Rattle.parts.proofs.Parts.{past-none, past-row}
+use Rattle.parts.proofs.write_each.Statement.{statement}
+use Rattle.parts.proofs.write_each.Tie as tie
+
+abbrev Inv-loop : tie.InvT-loop
+Inv-loop p d first n matrix f gs₀ hs₀ i₀ gs hs i =
+    (first ≤ i) × (i ≤ n) × (length gs ≡ length gs₀) × (length hs ≡ length hs₀)
+    × (gs ≡ past d (entryG p d matrix f) first i gs₀) × (hs ≡ past d (entryH p d matrix f) first i hs₀)
+
+abbrev μ-loop : tie.MeasureT-loop
+μ-loop p d first n matrix f gs₀ hs₀ i₀ gs hs i = n - i
+
+loop-holds : tie.Need-loop-holds Inv-loop μ-loop
+loop-holds c = let s = c .before .before .before .before in (search needs, s .pre .1, refl, refl, past-none _ _ _ _, past-none _ _ _ _)
+
+mul-write-h : tie.Need-mul-write-h Inv-loop μ-loop
+mul-write-h c =
+    let s = c .before .before .before .before .before .before .before in
+    omega (arith, row-fits (s .args .n) (s .args .d) (c .before .before .loop .i) (omega arith), s .pre .0 .rows)
+
+write-h-requires : tie.Need-write-h-requires Inv-loop μ-loop
+write-h-requires c κs =
+    let s = c .before .before .before .before .before .before .before in
+    let w = row-fits (s .args .n) (s .args .d) (c .before .before .loop .i) (omega arith) in
+    record { above = s .pre .0 .above; small = s .pre .0 .small; row = omega (arith, w, s .pre .0 .rows); square = s .pre .0 .square; fits = omega (arith, w, s .pre .0 .fits .1, c .before .before .loop .inv .3) }
+
+mul-write-g : tie.Need-mul-write-g Inv-loop μ-loop
+mul-write-g c =
+    let l = c .before .before .before .before .before .before in
+    let s = l .before .before .before .before .before in
+    omega (arith, row-fits (s .args .n) (s .args .d) (l .loop .i) (omega arith), s .pre .0 .rows)
+
+write-g-requires : tie.Need-write-g-requires Inv-loop μ-loop
+write-g-requires c κs =
+    let l = c .before .before .before .before .before .before in
+    let s = l .before .before .before .before .before in
+    let w = row-fits (s .args .n) (s .args .d) (l .loop .i) (omega arith) in
+    record { above = s .pre .0 .above; small = s .pre .0 .small; row = omega (arith, w, s .pre .0 .rows); square = s .pre .0 .square; fits = omega (arith, w, s .pre .0 .fits .0, l .loop .inv .2) }
+
+add-i : tie.Need-add-i Inv-loop μ-loop
+add-i c = search needs
+
+loop-less : tie.Need-loop-less Inv-loop μ-loop
+loop-less c = search needs
+
+loop-again : tie.Need-loop-again Inv-loop μ-loop
+loop-again c =
+    let h = c .before .before .before .before .before .before .write-h .ensures in
+    let g = c .before .before .write-g .ensures in
+    let l = c .before .before .before .before .before .before .before .before .before .loop in (
+      search needs,
+      search needs,
+      ap length g ∙ length-laid _ _ _ _ ∙ l .inv .2,
+      ap length h ∙ length-laid _ _ _ _ ∙ l .inv .3,
+      g ∙ past-row _ (entryG _ _ _ _) _ _ _ _ (l .inv .0) (l .inv .4),
+      h ∙ past-row _ (entryH _ _ _ _) _ _ _ _ (l .inv .0) (l .inv .5),
+    )
+
+same-length : tie.Need-same-length Inv-loop μ-loop
+same-length c = c .before .loop .inv .2
+
+same-length-2 : tie.Need-same-length-2 Inv-loop μ-loop
+same-length-2 c = c .before .loop .inv .3
+
+returns : tie.Need-returns Inv-loop μ-loop
+returns c =
+    let e = le-antisymm (c .before .loop .inv .1) (c .loop-test .left) in
+    (rw e at (c .before .loop .inv .4), rw e at (c .before .loop .inv .5))
+
+pub write-each-spec : {M : Type 1} → statement M
+write-each-spec =
+    tie.close
+    (tie.spec
+    Inv-loop
+    μ-loop
+    loop-holds
+    mul-write-h
+    write-h-requires
+    mul-write-g
+    write-g-requires
+    add-i
+    loop-less
+    loop-again
+    same-length
+    same-length-2
+    returns)

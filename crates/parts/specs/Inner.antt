@@ -1,0 +1,71 @@
+-- Contracts of inner functions: what they write of a dealing, and what they need.
+-- entryH, entryG: entry k of holder i's h = F m_i and entry b of its g = m_i F, from the matrix m and F, both by rows of d
+-- PartRoom: row i lies in m, F is whole, and d entries from place a on lie in the list that is written
+-- AllRoom: n rows lie in m, F is whole, and so are the lists of all g and of all h
+-- past: the list l with the parts of the holders from i to n - 1, whose entries are e, each at its place
+-- lane: the row of lane t, where eight lanes hold a column each
+-- laneEntry: the product of lane t's row and line j of F, reduced; line j starts at j * a, and its entries lie s apart
+-- Column: of the first r lanes, from place a on, those below c are u's entries, and all before them is as it was
+-- Held: the first r columns hold the entries of c holders' rows from holder i on
+-- Put: the first c entries stand d apart from place a on, and all else is as it was
+-- EightRoom: what the parts of c holders, held in the columns, need
+use Prim.Native.Nat.{ℕ, _+_, _-_, _*_, _%_, _<_, _≤_}
+use mathlib.Core.Path.{_≡_}
+use mathlib.Core.List.{List}
+use lib.ListN.{length}
+use Rattle.base.specs.Fill.{laid}
+use Rattle.base.specs.Matrix.{entry, flat, Below}
+use Rattle.field.specs.Dot.{at, dot, along}
+
+unfoldable pub entryH : ℕ → ℕ → List ℕ → List ℕ → ℕ → ℕ → ℕ
+entryH p d m F i k = dot d (λ b. entry d F k b) (entry d m i) % p
+
+unfoldable pub entryG : ℕ → ℕ → List ℕ → List ℕ → ℕ → ℕ → ℕ
+entryG p d m F i b = dot d (entry d m i) (λ k. entry d F k b) % p
+
+pub record PartRoom (p d : ℕ) (m : List ℕ) (i : ℕ) (F out : List ℕ) (a : ℕ) : Type 0 where
+  pub above : 0 < p
+  pub small : d ≤ 16
+  pub row : i * d + d ≤ length m
+  pub square : length F ≡ 256
+  pub fits : a + d ≤ length out
+
+pub record AllRoom (p d n : ℕ) (m F gs hs : List ℕ) : Type 0 where
+  pub above : 0 < p
+  pub small : d ≤ 16
+  pub rows : length m ≡ n * d
+  pub square : length F ≡ 256
+  pub fits : (length gs ≡ n * d) × (length hs ≡ n * d)
+
+unfoldable pub past : ℕ → (ℕ → ℕ → ℕ) → ℕ → ℕ → List ℕ → List ℕ
+past d e i n l = laid (λ t. flat d e (i * d + t)) (i * d) (n * d - i * d) l
+
+abbrev pub lane : List ℕ → ℕ → ℕ → ℕ
+lane columns t k = at columns (8 * k + t)
+
+unfoldable pub laneEntry : (p d : ℕ) (columns F : List ℕ) (a s : ℕ) → ℕ → ℕ → ℕ
+laneEntry p d columns F a s t j = dot d (lane columns t) (along F (j * a) s) % p
+
+pub record Column (r c : ℕ) (u : ℕ → ℕ) (a : ℕ) (before after : List ℕ) : Type 0 where
+  pub size : length after ≡ length before
+  pub written : (t : ℕ) → t < r → t < c → at after (a + t) ≡ u t
+  pub kept : (k : ℕ) → k < a → at after k ≡ at before k
+  pub small : Below 257 before → Below 257 after
+
+pub record Held (r d : ℕ) (m : List ℕ) (i c : ℕ) (columns : List ℕ) : Type 0 where
+  pub size : length columns ≡ 128
+  pub small : Below 257 columns
+  pub right : (t k : ℕ) → t < c → k < r → lane columns t k ≡ entry d m (i + t) k
+
+pub record Put (d c a : ℕ) (entries before after : List ℕ) : Type 0 where
+  pub size : length after ≡ length before
+  pub written : (t : ℕ) → t < c → at after (a + t * d) ≡ at entries t
+  pub kept : (k : ℕ) → ((t : ℕ) → t < c → k ≡ a + t * d → ⊥) → at after k ≡ at before k
+
+pub record EightRoom (p d : ℕ) (columns : List ℕ) (c : ℕ) (F : List ℕ) (a s : ℕ) (out : List ℕ) (b : ℕ) : Type 0 where
+  pub above : 0 < p
+  pub few : (d ≤ 16) × (c ≤ 8)
+  pub size : length columns ≡ 128
+  pub small : Below 257 columns × Below 257 F
+  pub lines : (j k : ℕ) → j < d → k < d → j * a + k * s < length F
+  pub fits : b + c * d ≤ length out
