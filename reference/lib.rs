@@ -147,12 +147,12 @@ fn dealt(s: &Params, secrets: &[u16], random: &[u16]) -> Vec<Vec<u16>> {
         .collect()
 }
 
-fn part_g(s: &Params, m: &[u16], f: &[Vec<u16>], i: usize) -> Vec<u16> {
-    (0..s.d()).map(|b| dot(s.p, row(s, m, i).iter().copied(), f.iter().map(|r| r[b]))).collect()
-}
-
 fn part_h(s: &Params, m: &[u16], f: &[Vec<u16>], i: usize) -> Vec<u16> {
     f.iter().map(|r| dot(s.p, r.iter().copied(), row(s, m, i).iter().copied())).collect()
+}
+
+fn part_g(s: &Params, m: &[u16], f: &[Vec<u16>], i: usize) -> Vec<u16> {
+    (0..s.d()).map(|b| dot(s.p, row(s, m, i).iter().copied(), f.iter().map(|r| r[b]))).collect()
 }
 
 fn deal_faults(s: &Params, m: &[u16], secrets: &[u16], random: &[u16]) -> Faults {
@@ -175,8 +175,8 @@ pub fn deal(s: Params, m: &[u16], secrets: &[u16], random: &[u16], holder: u16, 
         return refused(k);
     }
     let all = dealt(&s, secrets, random);
-    g.copy_from_slice(&part_g(&s, m, &all, holder as usize));
     h.copy_from_slice(&part_h(&s, m, &all, holder as usize));
+    g.copy_from_slice(&part_g(&s, m, &all, holder as usize));
     given(&[])
 }
 
@@ -189,8 +189,8 @@ pub fn deal_all(s: Params, m: &[u16], secrets: &[u16], random: &[u16], gs: &mut 
     }
     let (all, d) = (dealt(&s, secrets, random), s.d());
     for i in 0..s.n as usize {
-        gs[i * d..(i + 1) * d].copy_from_slice(&part_g(&s, m, &all, i));
         hs[i * d..(i + 1) * d].copy_from_slice(&part_h(&s, m, &all, i));
+        gs[i * d..(i + 1) * d].copy_from_slice(&part_g(&s, m, &all, i));
     }
     given(&[])
 }

@@ -5,3 +5,4 @@ pub mod Search
 pub mod Fill
 pub mod Matrix
 pub mod Table
+pub mod Rows

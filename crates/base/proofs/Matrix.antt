@@ -8,13 +8,13 @@ use native.Mathlib.Nat.{mul-le-mul-right, suc-mul, mul-zero, mod-lt, div-lt-iff-
 use native.Mathlib.Decide.{decLt}
 use native.Mathlib.Omega.{arith}
 use lib.Dec.{ltb}
-use lib.ListN.{length, getD, set, List·getD-eq-default}
+use lib.ListN.{length, getD, set, replicate, length-replicate, getD-replicate, List·getD-eq-default}
 use lib.Seq.{getD-set-same, getD-set-other, set-out}
 use borrow.Author.Tests.{ltb-true, lt-ltb}
-use Rattle.base.specs.Fill.{tab, laid}
+use Rattle.base.specs.Fill.{tab, laid, filled}
 use Rattle.base.specs.Matrix.{Below, allBelow}
 use Rattle.base.proofs.Choice.{either}
-use Rattle.base.proofs.Fill.{getD-tab, length-tab}
+use Rattle.base.proofs.Fill.{getD-tab, length-tab, length-filled, getD-filled, getD-filled-past}
 use Rattle.base.proofs.Search.{every-at, every-all}
 
 pub row-fits : (rows d r : ℕ) → r < rows → r * d + d ≤ rows * d
@@ -50,6 +50,21 @@ below-tab p n f pos h k = go (decLt k n)
     go : Dec (k < n) → getD (tab n f) k 0 < p
     go (yes l) = rw (getD-tab n f 0 k l) (h k l)
     go (no l) = rw (List·getD-eq-default (tab n f) 0 {n = k} (omega (arith, length-tab n f))) pos
+
+pub below-zeros : (p n : ℕ) → 0 < p → Below p (replicate n 0)
+below-zeros p n pos k = go (decLt k n)
+  where
+    go : Dec (k < n) → getD (replicate n 0) k 0 < p
+    go (yes l) = rw (getD-replicate {A = ℕ} n k 0 0 l) pos
+    go (no l) = rw (List·getD-eq-default {A = ℕ} (replicate n 0) 0 {n = k} (omega (arith, length-replicate {A = ℕ} n 0))) pos
+
+pub below-filled : (p : ℕ) (f : ℕ → ℕ) (n : ℕ) (l : List ℕ) → 0 < p → ((k : ℕ) → k < n → f k < p) → Below p l → Below p (filled f n l)
+below-filled p f n l pos h all k = go (decLt k n) (decLt k (length l))
+  where
+    go : Dec (k < n) → Dec (k < length l) → getD (filled f n l) k 0 < p
+    go (yes m) (yes q) = rw (getD-filled f n l k 0 m q) (h k m)
+    go (yes m) (no q) = rw (List·getD-eq-default (filled f n l) 0 {n = k} (omega (arith, length-filled f n l))) pos
+    go (no m) q = rw (getD-filled-past f n l k 0 (omega arith)) (all k)
 
 -- the test and the fact; past the end stands 0, so p is above 0
 pub below-by : (p : ℕ) (l : List ℕ) → 0 < p → allBelow p l ≡ true → Below p l

@@ -12,14 +12,14 @@ use Rattle.base.specs.Choice.{pick}
 use Rattle.base.specs.Fill.{tab, filled, laid}
 use Rattle.base.specs.Matrix.{entry, flat, Below}
 use Rattle.base.proofs.Fill.{getD-tab, tab-ext, getD-filled, flat-at, laid-filled, laid-whole, filled-all}
-use Rattle.base.proofs.Matrix.{entry-fits, place-at}
+use Rattle.base.proofs.Matrix.{entry-fits, place-at, below-filled}
 use Rattle.field.specs.Dot.{at, dot, along}
 use Rattle.field.proofs.Dot.{dot-ext, dot-same}
 use Rattle.scheme.specs.Setup.{Setup, dim, row}
 use Rattle.scheme.specs.Dealing.{place, dealtEntry, dealt, partG, partH}
 use Rattle.scheme.proofs.Calls.{DealOk, limits-pos, below-vec}
 use Rattle.parts.specs.Inner.{entryH, entryG}
-use Rattle.parts.proofs.Parts.{square-fits, below-filled}
+use Rattle.parts.proofs.Parts.{square-fits}
 use Rattle.dealing.specs.Inner.{sized}
 
 -- F by rows: secrets and e random entries in a row below ℓ, then random entries alone

@@ -2,7 +2,7 @@
 // works on inputs that are in order. The work neither branches on nor indexes by a secret or a random entry.
 ghost use mathlib.Core.Path.{_≡_};
 ghost use mathlib.Core.List.{[], _++_};
-ghost use Prim.Native.Nat.{ℕ, _+_, _-_, _*_, _%_, _<_, _≤_};
+ghost use Prim.Native.Nat.{ℕ, _+_, _-_, _*_, _<_, _≤_};
 ghost use lib.ListN.{length};
 ghost use Rattle.base.specs.Rules.{refusal, refusalFrom};
 ghost use Rattle.base.specs.Fill.{filled, laid};

@@ -1,23 +1,21 @@
--- The laws of the parts: sums in lanes, entries put side by side, and parts written entry by entry.
+-- The laws of the parts: sums in lanes, and parts written entry by entry.
 -- lane: lane j's sum after k columns
--- Begun: the first n entries of each of the sixteen parts are written
 use Prim.Native.Nat.{ℕ, _+_, _*_, _/_, _%_, _≤_, _<_}
 use mathlib.Core.Path.{_≡_, refl, sym, ap, _∙_}
 use mathlib.Core.List.{List, []}
-use native.Mathlib.Nat.{mul-comm, div-add-mod'}
+use native.Mathlib.Nat.{zero-add}
 use native.Mathlib.Omega.{arith}
-use lib.ListN.{length, getD, set, length-set}
-use lib.Seq.{getD-set-same, getD-set-other}
+use lib.ListN.{length, getD}
 use Rattle.base.specs.Fill.{tab}
 use Rattle.base.specs.Matrix.{flat, Below}
-use Rattle.base.proofs.Choice.{either}
 use Rattle.base.proofs.Fill.{getD-tab, tab-ext, tab-is}
 use Rattle.base.proofs.Matrix.{below-tab, place-at}
+use Rattle.base.proofs.Rows.{Begun, begun-at}
 use Rattle.field.specs.Dot.{at, dot}
 use Rattle.field.proofs.Dot.{dot-step, dot-ext, dot-same, dot-comm, dot-comb, dot-le}
 use Rattle.lanes.proofs.Laws.{half-le}
 use Rattle.key_entries.specs.Inner.{keyEntry}
-use Rattle.key_parts.specs.Inner.{Halves, matrixEntry, Put, entryG, entryH, partsG, partsH}
+use Rattle.key_parts.specs.Inner.{Halves, matrixEntry, entryG, entryH, partsG, partsH}
 
 -- SUMS
 abbrev pub lane : (columns : List (List ℕ)) (x : List ℕ) (k j : ℕ) → ℕ
@@ -67,46 +65,13 @@ module _ (columns : List (List ℕ)) (key random x : List ℕ) where
       ap (λ z. z % 257)
       (with-vector (matrixEntry columns i) (keyEntry key random k) x e ∙ dot-comm 7 (matrixEntry columns i) (keyEntry key random k)))
 
--- ENTRIES SIDE BY SIDE
-pub put-none : (c : ℕ) (entries out : List ℕ) → Put 0 c entries out out
-put-none c entries out = record { size = refl; written = λ i l. absurd (omega arith); kept = λ i d l n. refl }
-
-pub put-step : (n c : ℕ) (entries before after : List ℕ) → length before ≡ 112 → n < 16 → c < 7 → Put n c entries before after
-    → Put (n + 1) c entries before (set after (7 * n + c) (at entries n))
-put-step n c entries before after e l m w =
-    record {
-      size = length-set after (7 * n + c) _ ∙ w .size;
-      written = λ i h.
-          either i n (at (set after (7 * n + c) (at entries n)) (i * 7 + c) ≡ at entries i)
-          (λ q. rw (q, mul-comm n 7) (getD-set-same after (7 * n + c) _ 0 (omega (arith, w .size, e))))
-          (λ q. getD-set-other after (7 * n + c) (i * 7 + c) _ 0 (λ z. q (omega arith)) ∙ w .written i (omega (arith, q)));
-      kept = λ i d h q. getD-set-other after (7 * n + c) (i * 7 + d) _ 0 (λ z. q (omega arith)) ∙ w .kept i d h q;
-    }
-
 -- PARTS
-pub record Begun (f : ℕ → ℕ → ℕ) (n : ℕ) (out : List ℕ) : Type 0 where
-  pub size : length out ≡ 112
-  pub right : (i d : ℕ) → i < 16 → d < n → at out (i * 7 + d) ≡ f i d
+pub entry-of : (f : ℕ → ℕ) (entries : List ℕ) → entries ≡ tab 16 f → (t : ℕ) → t < 16 → at entries t ≡ f t
+entry-of f entries e t l = rw e (getD-tab 16 f 0 t l)
 
-module _ (f : ℕ → ℕ → ℕ) where
-  pub begun-none : (out : List ℕ) → length out ≡ 112 → Begun f 0 out
-  begun-none out e = record { size = e; right = λ i d l m. absurd (omega arith) }
-
-  pub begun-put : (n : ℕ) (entries before after : List ℕ) → n < 7 → Begun f n before → Put 16 n entries before after
-      → entries ≡ tab 16 (λ i. f i n) → Begun f (n + 1) after
-  begun-put n entries before after l b w e =
-      record {
-        size = w .size ∙ b .size;
-        right = λ i d h m.
-            either d n (at after (i * 7 + d) ≡ f i d)
-            (λ q. rw q (w .written i h ∙ rw e (getD-tab 16 (λ i. f i n) 0 i h)))
-            (λ q. w .kept i d (omega arith) q ∙ b .right i d h (omega (arith, q)));
-      }
-
-  pub begun-all : (out : List ℕ) → Begun f 7 out → out ≡ tab 112 (flat 7 f)
-  begun-all out b =
-      tab-is 112 (flat 7 f) 0 out (b .size)
-      (λ t l. let w = place-at 7 16 t l in ap (at out) (sym (div-add-mod' t 7)) ∙ b .right (t / 7) (t % 7) (w .1) (w .2))
+-- all seven entries of each of the sixteen parts
+pub parts-all : (f : ℕ → ℕ → ℕ) (out : List ℕ) → length out ≡ 112 → Begun 7 16 0 f 7 out → out ≡ tab 112 (flat 7 f)
+parts-all f out e w = tab-is 112 (flat 7 f) 0 out e (λ t l. ap (at out) (sym (zero-add t)) ∙ begun-at 7 16 0 f out w t l)
 
 -- the parts depend on the matrix's entries alone
 module _ (m o : ℕ → ℕ → ℕ) (key random : List ℕ) (same : (i k : ℕ) → i < 16 → k < 7 → m i k ≡ o i k) where

@@ -1,13 +1,11 @@
 -- Contracts of inner functions: what every depot's part of a key is.
 -- Halves: the matrix's seven columns, each as sixteen remainders by 16 and sixteen quotients by 16
 -- matrixEntry: entry k of depot i's row
--- Put: the first n entries stand at place c of as many parts, and all other places of a part are as before
 -- entryG, entryH: entry b of depot i's g = m_i F and entry k of its h = F m_i, on the matrix with rows m_i
 -- partsG, partsH: every depot's g and every depot's h, one after the other
-use mathlib.Core.Path.{_≡_}
 use mathlib.Core.List.{List, []}
 use Prim.Native.Nat.{ℕ, _+_, _*_, _%_, _<_}
-use lib.ListN.{length, getD}
+use lib.ListN.{getD}
 use Rattle.base.specs.Fill.{tab}
 use Rattle.base.specs.Matrix.{flat, Below}
 use Rattle.field.specs.Dot.{at, dot}
@@ -18,11 +16,6 @@ pub record Halves (columns : List (List ℕ)) : Type 0 where
 
 unfoldable pub matrixEntry : List (List ℕ) → ℕ → ℕ → ℕ
 matrixEntry columns i k = at (getD columns k []) i + 16 * at (getD columns k []) (16 + i)
-
-pub record Put (n c : ℕ) (entries before after : List ℕ) : Type 0 where
-  pub size : length after ≡ length before
-  pub written : (i : ℕ) → i < n → at after (i * 7 + c) ≡ at entries i
-  pub kept : (i d : ℕ) → d < 7 → (d ≡ c → ⊥) → at after (i * 7 + d) ≡ at before (i * 7 + d)
 
 unfoldable pub entryG : (m : ℕ → ℕ → ℕ) (key random : List ℕ) → ℕ → ℕ → ℕ
 entryG m key random i b = dot 7 (m i) (λ k. keyEntry key random k b) % 257

@@ -3,12 +3,12 @@
 ghost use mathlib.Core.Path.{_≡_};
 ghost use Prim.Native.Nat.{_+_, _%_, _<_};
 ghost use lib.ListN.{length};
-ghost use Rattle.base.specs.Fill.{tab};
+ghost use Rattle.base.specs.Fill.{tab, Put};
 ghost use Rattle.base.specs.Matrix.{entry, Below};
 ghost use Rattle.field.specs.Dot.{at, dot};
 ghost use Rattle.scheme.specs.Points.{pointsMatrix};
 ghost use Rattle.key_entries.specs.Inner.{Lent};
-ghost use Rattle.key_parts.specs.Inner.{Halves, matrixEntry, Put, partsH, partsG};
+ghost use Rattle.key_parts.specs.Inner.{Halves, matrixEntry, partsH, partsG};
 
 // The product of a row or a column x of F with every depot's row of the matrix.
 fn products(columns: &[[u16; 32]; 7], x: [u16; 7]) -> [u16; 16]
@@ -29,11 +29,11 @@ fn products(columns: &[[u16; 32]; 7], x: [u16; 7]) -> [u16; 16]
 // Entry c of all sixteen parts.
 fn put(out: &mut [u16], c: usize, entries: [u16; 16])
     requires { ⌜ (length (now out) ≡ 112) × (c < 7) ⌝ }
-    ensures { λ _. ⌜ Put 16 c entries (now (out .entry)) (now (out .exit)) ⌝ }
+    ensures { λ _. ⌜ Put 7 16 c entries (now (out .entry)) (now (out .exit)) ⌝ }
 {
     let mut i = 0;
     while i < 16 {
-        out[7 * i + c] = entries[i];
+        out[c + i * 7] = entries[i];
         i += 1;
     }
 }

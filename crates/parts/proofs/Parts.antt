@@ -1,30 +1,27 @@
--- The laws of parts: what a product is an entry of, and lists written holder by holder or eight holders at a time.
--- Begun: the first j entries of each of c rows of d, from place a on, are those of e, and all outside the rows is as it was
+-- The laws of parts: what a product is an entry of, and parts written holder by holder or eight holders at a time.
 use Prim.Native.Nat.{ℕ, _+_, _-_, _*_, _/_, _%_, _≤_, _<_}
-use mathlib.Core.Path.{_≡_, refl, sym, ap, _∙_}
+use mathlib.Core.Path.{_≡_, refl, ap, _∙_}
 use mathlib.Core.Bool.{true}
 use mathlib.Core.List.{List}
-use mathlib.Core.Logic.{inl, inr, ⊎-elim}
 use native.Mathlib.Nat.{mul-le-mul, mul-le-mul-right, div-add-mod'}
 use native.Mathlib.Decide.{decLt}
 use native.Mathlib.Omega.{arith}
 use borrow.Author.Tests.{lt-ltb, le-ltb}
-use lib.Arith.{digits-mod}
 use lib.Dec.{ltb}
-use lib.ListN.{length, getD, set, length-set, replicate, length-replicate, getD-replicate, List·getD-eq-default}
-use lib.Seq.{ext-getD, getD-set-same, getD-set-other}
+use lib.ListN.{length, getD, set, length-set}
+use lib.Seq.{getD-set-same, getD-set-other}
 use Rattle.base.specs.Choice.{pick}
 use Rattle.base.specs.Fill.{tab, laid, filled}
 use Rattle.base.specs.Matrix.{entry, flat, Below}
 use Rattle.base.proofs.Choice.{either}
-use Rattle.base.proofs.Fill.{Outside, getD-tab, tab-ext, length-laid, laid-in, laid-out, laid-none, laid-parts, length-filled, getD-filled, getD-filled-past, flat-at, laid-filled}
-use Rattle.base.proofs.Matrix.{row-fits, entry-fits, rows-apart, below-set, below-tab, place-at}
+use Rattle.base.proofs.Fill.{getD-tab, tab-ext, laid-none, laid-parts, flat-at, laid-filled}
+use Rattle.base.proofs.Matrix.{row-fits, below-set, below-tab, place-at}
 use Rattle.field.specs.Fields.{isField}
 use Rattle.field.specs.Dot.{at, dot, along}
 use Rattle.field.proofs.Fields.{five-elim, field-five}
 use Rattle.field.proofs.Dot.{dot-step, dot-same, dot-comm, dot-le}
 use Rattle.lanes.proofs.Laws.{product-le}
-use Rattle.parts.specs.Inner.{entryH, entryG, past, lane, laneEntry, Column, Held, Put}
+use Rattle.parts.specs.Inner.{entryH, entryG, past, lane, laneEntry, Column, Held}
 
 -- ROOM
 -- F and its rows lie in the array
@@ -40,22 +37,6 @@ rows-fit d i c n h = omega (arith, mul-le-mul-right d h)
 -- the one field above 257
 pub largest : (p : ℕ) → isField p ≡ true → 257 < p → p ≡ 65521
 largest p e = five-elim p (λ q. 257 < q → q ≡ 65521) (λ l. absurd (omega arith)) (λ l. absurd (omega arith)) (λ l. absurd (omega arith)) (λ l. absurd (omega arith)) (λ l. refl) (field-five p e)
-
--- past the end stands 0, so p is above 0
-pub below-zeros : (p n : ℕ) → 0 < p → Below p (replicate n 0)
-below-zeros p n pos k = go (decLt k n)
-  where
-    go : Dec (k < n) → getD (replicate n 0) k 0 < p
-    go (yes l) = rw (getD-replicate {A = ℕ} n k 0 0 l) pos
-    go (no l) = rw (List·getD-eq-default {A = ℕ} (replicate n 0) 0 {n = k} (omega (arith, length-replicate {A = ℕ} n 0))) pos
-
-pub below-filled : (p : ℕ) (f : ℕ → ℕ) (n : ℕ) (l : List ℕ) → 0 < p → ((k : ℕ) → k < n → f k < p) → Below p l → Below p (filled f n l)
-below-filled p f n l pos h all k = go (decLt k n) (decLt k (length l))
-  where
-    go : Dec (k < n) → Dec (k < length l) → getD (filled f n l) k 0 < p
-    go (yes m) (yes q) = rw (getD-filled f n l k 0 m q) (h k m)
-    go (yes m) (no q) = rw (List·getD-eq-default (filled f n l) 0 {n = k} (omega (arith, length-filled f n l))) pos
-    go (no m) q = rw (getD-filled-past f n l k 0 (omega arith)) (all k)
 
 -- ONE HOLDER
 -- an entry of h runs along row i of the matrix and row k of F, an entry of g along row i and column b of F
@@ -142,65 +123,6 @@ module _ (d : ℕ) (m : List ℕ) (i c : ℕ) where
             (λ z. rw z (w .written t (omega arith) q ∙ ap (λ n. getD m n 0) (omega arith)))
             (λ z. w .kept (8 * k + t) (omega (arith, z)) ∙ h .right t k q (omega (arith, z)));
       }
-
--- ENTRIES PUT APART
-module _ (d a : ℕ) (entries x : List ℕ) where
-  pub put-none : Put d 0 a entries x x
-  put-none = record { size = refl; written = λ t l. absurd (omega arith); kept = λ k h. refl }
-
-  pub put-step : (r : ℕ) (l : List ℕ) → 0 < d → a + r * d < length x → Put d r a entries x l → Put d (r + 1) a entries x (set l (a + r * d) (at entries r))
-  put-step r l pos f w =
-      record {
-        size = length-set l (a + r * d) _ ∙ w .size;
-        written = λ t h.
-            either t r (at (set l (a + r * d) (at entries r)) (a + t * d) ≡ at entries t)
-            (λ q. rw q (getD-set-same l (a + r * d) _ 0 (omega (arith, w .size))))
-            (λ q.
-            getD-set-other l (a + r * d) (a + t * d) _ 0 (λ z. ⊎-elim (λ s. absurd (omega (arith, z, s))) (λ s. absurd (omega (arith, z, s))) (rows-apart d t r q))
-            ∙ w .written t (omega (arith, q)));
-        kept = λ k h. getD-set-other l (a + r * d) k _ 0 (h r (omega arith)) ∙ w .kept k (λ t q. h t (omega arith));
-      }
-
--- ROWS, ONE ENTRY OF EACH AFTER THE OTHER
-pub record Begun (d c a : ℕ) (e : ℕ → ℕ → ℕ) (j : ℕ) (before after : List ℕ) : Type 0 where
-  pub size : length after ≡ length before
-  pub right : (t b : ℕ) → t < c → b < j → at after (a + (t * d + b)) ≡ e t b
-  pub kept : (k : ℕ) → Outside a (c * d) k → at after k ≡ at before k
-
-module _ (d c a : ℕ) (e : ℕ → ℕ → ℕ) (x : List ℕ) where
-  pub begun-none : Begun d c a e 0 x x
-  begun-none = record { size = refl; right = λ t b l m. absurd (omega arith); kept = λ k h. refl }
-
-  pub begun-put : (j : ℕ) (entries l r : List ℕ) → j < d → Begun d c a e j x l → Put d c (a + j) entries l r
-      → ((t : ℕ) → t < c → at entries t ≡ e t j) → Begun d c a e (j + 1) x r
-  begun-put j entries l r f w u s =
-      record {
-        size = u .size ∙ w .size;
-        right = λ t b h m.
-            either b j (at r (a + (t * d + b)) ≡ e t b)
-            (λ q. rw q (ap (at r) (omega arith) ∙ u .written t h ∙ s t h))
-            (λ q.
-            u .kept (a + (t * d + b))
-            (λ v g z. q (sym (digits-mod t {r = b} (omega arith)) ∙ ap (λ n. n % d) (omega (arith, z)) ∙ digits-mod v {r = j} f))
-            ∙ w .right t b h (omega (arith, q)));
-        kept = λ k h.
-            u .kept k (λ t g z. ⊎-elim (λ o. absurd (omega (arith, z, o))) (λ o. absurd (omega (arith, z, o, entry-fits c d t j g f))) h)
-            ∙ w .kept k h;
-      }
-
-  pub begun-all : (l : List ℕ) → a + c * d ≤ length x → Begun d c a e d x l → l ≡ laid (flat d e) a (c * d) x
-  begun-all l fits w = ext-getD 0 l _ (w .size ∙ sym (length-laid _ a (c * d) x)) (λ k m. go k (decLt k a) (decLt k (a + c * d)))
-    where
-      inside : (k u : ℕ) → k ≡ a + u → u < c * d → getD l k 0 ≡ getD (laid (flat d e) a (c * d) x) k 0
-      inside k u q m =
-          let v = place-at d c u m in
-          ap (at l) (q ∙ ap (λ n. a + n) (sym (div-add-mod' u d))) ∙ w .right (u / d) (u % d) (v .1) (v .2)
-          ∙ sym (ap (λ k. getD (laid (flat d e) a (c * d) x) k 0) q ∙ laid-in (flat d e) a (c * d) x u 0 fits m)
-
-      go : (k : ℕ) → Dec (k < a) → Dec (k < a + c * d) → getD l k 0 ≡ getD (laid (flat d e) a (c * d) x) k 0
-      go k (yes b) q = w .kept k (inl b) ∙ sym (laid-out _ a (c * d) x k 0 (inl b))
-      go k (no b) (yes q) = inside k (k - a) (omega arith) (omega arith)
-      go k (no b) (no q) = w .kept k (inr (omega arith)) ∙ sym (laid-out _ a (c * d) x k 0 (inr (omega arith)))
 
 -- EIGHT HOLDERS
 -- some of those that are left, if any are, and no more than eight

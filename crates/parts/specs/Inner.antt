@@ -7,7 +7,6 @@
 -- laneEntry: the product of lane t's row and line j of F, reduced; line j starts at j * a, and its entries lie s apart
 -- Column: of the first r lanes, from place a on, those below c are u's entries, and all before them is as it was
 -- Held: the first r columns hold the entries of c holders' rows from holder i on
--- Put: the first c entries stand d apart from place a on, and all else is as it was
 -- EightRoom: what the parts of c holders, held in the columns, need
 use Prim.Native.Nat.{ℕ, _+_, _-_, _*_, _%_, _<_, _≤_}
 use mathlib.Core.Path.{_≡_}
@@ -56,11 +55,6 @@ pub record Held (r d : ℕ) (m : List ℕ) (i c : ℕ) (columns : List ℕ) : Ty
   pub size : length columns ≡ 128
   pub small : Below 257 columns
   pub right : (t k : ℕ) → t < c → k < r → lane columns t k ≡ entry d m (i + t) k
-
-pub record Put (d c a : ℕ) (entries before after : List ℕ) : Type 0 where
-  pub size : length after ≡ length before
-  pub written : (t : ℕ) → t < c → at after (a + t * d) ≡ at entries t
-  pub kept : (k : ℕ) → ((t : ℕ) → t < c → k ≡ a + t * d → ⊥) → at after k ≡ at before k
 
 pub record EightRoom (p d : ℕ) (columns : List ℕ) (c : ℕ) (F : List ℕ) (a s : ℕ) (out : List ℕ) (b : ℕ) : Type 0 where
   pub above : 0 < p

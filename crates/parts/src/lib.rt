@@ -6,11 +6,11 @@ ghost use Prim.Native.Nat.{ℕ, _+_, _*_, _%_, _<_, _≤_};
 ghost use lib.Dec.{ltb};
 ghost use lib.ListN.{length, getD};
 ghost use Rattle.base.specs.Choice.{pick};
-ghost use Rattle.base.specs.Fill.{tab, filled, laid};
+ghost use Rattle.base.specs.Fill.{tab, filled, laid, Put};
 ghost use Rattle.base.specs.Matrix.{flat, Below};
 ghost use Rattle.field.specs.Fields.{isField};
 ghost use Rattle.field.specs.Dot.{dot, along};
-ghost use Rattle.parts.specs.Inner.{entryH, entryG, PartRoom, AllRoom, past, lane, laneEntry, Column, Held, Put, EightRoom};
+ghost use Rattle.parts.specs.Inner.{entryH, entryG, PartRoom, AllRoom, past, lane, laneEntry, Column, Held, EightRoom};
 use field::Field;
 
 // ONE HOLDER

@@ -5,10 +5,10 @@ use native.Mathlib.Omega.{arith}
 use borrow.Author.Needs.{needs}
 use lib.ListN.{length}
 use Rattle.base.proofs.Fill.{length-filled}
+use Rattle.base.proofs.Matrix.{below-zeros}
 use Rattle.scheme.specs.Setup.{setupOf}
 use Rattle.base.proofs.Rules.{declined, unchanged}
 use Rattle.scheme.proofs.Calls.{dealAll-ok, limits-pos, below-vec}
-use Rattle.parts.proofs.Parts.{below-zeros}
 use Rattle.dealing.proofs.Parts.{dealt-below, all-g, all-h}
 use Rattle.dealing.proofs.deal_all.Statement.{statement}
 use Rattle.dealing.proofs.deal_all.Tie as tie

@@ -3,19 +3,19 @@ use Prim.Native.Nat.{_-_, _≤_}
 use native.Mathlib.Nat.{le-antisymm}
 use native.Mathlib.Omega.{arith}
 use borrow.Author.Needs.{needs}
-use Rattle.key_parts.specs.Inner.{Put}
-use Rattle.key_parts.proofs.Parts.{put-none, put-step}
+use Rattle.base.specs.Fill.{Put}
+use Rattle.base.proofs.Rows.{put-none, put-step}
 use Rattle.key_parts.proofs.put.Statement.{statement}
 use Rattle.key_parts.proofs.put.Tie as tie
 
 abbrev Inv-loop : tie.InvT-loop
-Inv-loop out₀ c entries i₀ out i = (i ≤ 16) × Put i c entries out₀ out
+Inv-loop out₀ c entries i₀ out i = (i ≤ 16) × Put 7 i c entries out₀ out
 
 abbrev μ-loop : tie.MeasureT-loop
 μ-loop out₀ c entries i₀ out i = 16 - i
 
 loop-holds : tie.Need-loop-holds Inv-loop μ-loop
-loop-holds c = (search needs, put-none _ _ _)
+loop-holds c = (search needs, put-none _ _ _ _)
 
 mul-out : tie.Need-mul-out Inv-loop μ-loop
 mul-out c = search needs
@@ -42,7 +42,7 @@ loop-less : tie.Need-loop-less Inv-loop μ-loop
 loop-less c = search needs
 
 loop-again : tie.Need-loop-again Inv-loop μ-loop
-loop-again c = let s = c .before .before in (search needs, put-step _ _ _ _ _ (s .pre .0) (c .loop-test .taken) (s .pre .1) (c .before .loop .inv .1))
+loop-again c = let s = c .before .before in (search needs, put-step _ _ _ _ _ _ (omega arith) (omega (arith, s .pre)) (c .before .loop .inv .1))
 
 same-length : tie.Need-same-length Inv-loop μ-loop
 same-length c = c .before .loop .inv .1 .size

@@ -1,5 +1,5 @@
 -- The test picks.
-use mathlib.Core.Path.{sym, refl}
+use mathlib.Core.Path.{refl}
 use borrow.Author.Tests.{lt-ltb, le-ltb}
 use Rattle.parts.proofs.lanes_for.Statement.{statement}
 use Rattle.parts.proofs.lanes_for.Tie as tie

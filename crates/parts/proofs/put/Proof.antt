@@ -3,8 +3,8 @@ use Prim.Native.Nat.{_-_, _≤_}
 use native.Mathlib.Nat.{le-antisymm}
 use native.Mathlib.Omega.{arith}
 use borrow.Author.Needs.{needs}
-use Rattle.parts.specs.Inner.{Put}
-use Rattle.parts.proofs.Parts.{put-none, put-step}
+use Rattle.base.specs.Fill.{Put}
+use Rattle.base.proofs.Rows.{put-none, put-step}
 use Rattle.parts.proofs.put.Statement.{statement}
 use Rattle.parts.proofs.put.Tie as tie
 

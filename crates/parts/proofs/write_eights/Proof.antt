@@ -1,5 +1,5 @@
 -- The parts of the first i holders are written, each as a row of a flat matrix.
-use Prim.Native.Nat.{_+_, _-_, _*_, _≤_, _<_}
+use Prim.Native.Nat.{_-_, _*_, _≤_}
 use mathlib.Core.Path.{_≡_, refl, ap, _∙_}
 use native.Mathlib.Nat.{zero-mul}
 use native.Mathlib.Omega.{arith}
@@ -8,9 +8,9 @@ use lib.ListN.{length}
 use Rattle.base.specs.Fill.{filled}
 use Rattle.base.specs.Matrix.{flat}
 use Rattle.base.proofs.Fill.{filled-none, length-laid}
-use Rattle.base.proofs.Matrix.{entry-fits}
+use Rattle.base.proofs.Matrix.{entry-fits, below-zeros}
 use Rattle.parts.specs.Inner.{entryH, entryG}
-use Rattle.parts.proofs.Parts.{square-fits, rows-fit, below-zeros, past-filled, few-lanes, more-h, more-g}
+use Rattle.parts.proofs.Parts.{square-fits, rows-fit, past-filled, few-lanes, more-h, more-g}
 use Rattle.parts.proofs.write_eights.Statement.{statement}
 use Rattle.parts.proofs.write_eights.Tie as tie
 
