@@ -2,9 +2,10 @@
 use mathlib.Core.Path.{_≡_, refl, ap, sym, _∙_}
 use mathlib.Core.List.{List, [], _∷_}
 use mathlib.Core.Logic.{_⊎_, inl, inr, ⊎-elim}
-use Prim.Native.Nat.{ℕ, zero, suc, _+_, _*_, _<_, _≤_}
+use Prim.Native.Nat.{ℕ, zero, suc, _+_, _-_, _*_, _<_, _≤_}
 use native.Mathlib.Nat.{le-of-suc-le-suc, not-suc-le-zero, add-assoc, suc-mul, le-antisymm, add-zero, zero-add, add-suc}
 use native.Mathlib.Numerals.{add-one}
+use native.Mathlib.Decide.{decLt}
 use native.Mathlib.Omega.{arith}
 use lib.Arith.{digits-div, digits-mod}
 use lib.ListN.{length, getD, set, length-set}
@@ -79,6 +80,19 @@ module _ {A : Type 0} where
       either c n (getD (set (laid f t n a) (t + n) (f n)) (t + c) z ≡ f c)
       (λ e. rw e (getD-set-same (laid f t n a) (t + n) (f n) z (omega (arith, length-laid f t n a))))
       (λ e. getD-set-other (laid f t n a) (t + n) (t + c) (f n) z (omega (arith, e)) ∙ laid-in f t n a c z (omega arith) (omega (arith, e)))
+
+  -- a list with those entries there, and all else as it was
+  pub laid-is : (f : ℕ → A) (t n : ℕ) (z : A) (a l : List A) → length l ≡ length a → t + n ≤ length a → ((c : ℕ) → c < n → getD l (t + c) z ≡ f c)
+      → ((k : ℕ) → Outside t n k → getD l k z ≡ getD a k z) → l ≡ laid f t n a
+  laid-is f t n z a l size fits h kept = ext-getD z l _ (size ∙ sym (length-laid f t n a)) (λ k m. go k (decLt k t) (decLt k (t + n)))
+    where
+      inside : (k c : ℕ) → k ≡ t + c → c < n → getD l k z ≡ getD (laid f t n a) k z
+      inside k c q m = rw q (h c m ∙ sym (laid-in f t n a c z fits m))
+
+      go : (k : ℕ) → Dec (k < t) → Dec (k < t + n) → getD l k z ≡ getD (laid f t n a) k z
+      go k (yes b) q = kept k (inl b) ∙ sym (laid-out f t n a k z (inl b))
+      go k (no b) (yes q) = inside k (k - t) (omega arith) (omega arith)
+      go k (no b) (no q) = kept k (inr (omega arith)) ∙ sym (laid-out f t n a k z (inr (omega arith)))
 
   pub laid-ext : (f g : ℕ → A) (t n : ℕ) (a : List A) → ((j : ℕ) → j < n → f j ≡ g j) → laid f t n a ≡ laid g t n a
   unfolding laid

@@ -2,18 +2,17 @@
 -- Begun: the first j entries of each of c rows, from place a on, are those of e
 use mathlib.Core.Path.{_≡_, refl, sym, ap, _∙_}
 use mathlib.Core.List.{List}
-use mathlib.Core.Logic.{inl, inr, ⊎-elim}
-use Prim.Native.Nat.{ℕ, _+_, _-_, _*_, _/_, _%_, _≤_, _<_}
+use mathlib.Core.Logic.{⊎-elim}
+use Prim.Native.Nat.{ℕ, _+_, _*_, _/_, _%_, _≤_, _<_}
 use native.Mathlib.Nat.{div-add-mod'}
-use native.Mathlib.Decide.{decLt}
 use native.Mathlib.Omega.{arith}
 use lib.Arith.{digits-mod}
 use lib.ListN.{length, getD, set, length-set}
-use lib.Seq.{ext-getD, getD-set-same, getD-set-other}
+use lib.Seq.{getD-set-same, getD-set-other}
 use Rattle.base.specs.Fill.{laid, Put}
 use Rattle.base.specs.Matrix.{flat}
 use Rattle.base.proofs.Choice.{either}
-use Rattle.base.proofs.Fill.{Outside, length-laid, laid-in, laid-out}
+use Rattle.base.proofs.Fill.{Outside, laid-is}
 use Rattle.base.proofs.Matrix.{entry-fits, rows-apart, place-at}
 
 -- ENTRIES PUT APART
@@ -39,6 +38,14 @@ module _ (d a : ℕ) (entries x : List ℕ) where
   put-outside c b j l m q w k h =
       w .kept k (λ t g z. ⊎-elim (λ o. absurd (omega (arith, z, q, o))) (λ o. absurd (omega (arith, z, q, o, entry-fits c d t j g m))) h)
 
+-- entries put side by side
+pub put-laid : (f : ℕ → ℕ) (a c : ℕ) (entries x l : List ℕ) → a + c ≤ length x → Put 1 c a entries x l → ((t : ℕ) → t < c → getD entries t 0 ≡ f t)
+    → l ≡ laid f a c x
+put-laid f a c entries x l fits w s =
+    laid-is f a c 0 x l (w .size) fits
+    (λ t m. ap (λ n. getD l n 0) (omega arith) ∙ w .written t m ∙ s t m)
+    (λ k h. w .kept k (λ t g z. ⊎-elim (λ o. absurd (omega (arith, z, o))) (λ o. absurd (omega (arith, z, o))) h))
+
 -- ROWS, ONE ENTRY OF EACH AFTER THE OTHER
 abbrev pub Begun : (d c a : ℕ) (e : ℕ → ℕ → ℕ) (j : ℕ) (l : List ℕ) → Type 0
 Begun d c a e j l = (t b : ℕ) → t < c → b < j → getD l (a + (t * d + b)) 0 ≡ e t b
@@ -60,12 +67,4 @@ module _ (d c a : ℕ) (e : ℕ → ℕ → ℕ) where
 
   pub begun-all : (x l : List ℕ) → length l ≡ length x → a + c * d ≤ length x → Begun d c a e d l
       → ((k : ℕ) → Outside a (c * d) k → getD l k 0 ≡ getD x k 0) → l ≡ laid (flat d e) a (c * d) x
-  begun-all x l size fits w kept = ext-getD 0 l _ (size ∙ sym (length-laid _ a (c * d) x)) (λ k m. go k (decLt k a) (decLt k (a + c * d)))
-    where
-      inside : (k u : ℕ) → k ≡ a + u → u < c * d → getD l k 0 ≡ getD (laid (flat d e) a (c * d) x) k 0
-      inside k u q m = rw q (begun-at l w u m ∙ sym (laid-in (flat d e) a (c * d) x u 0 fits m))
-
-      go : (k : ℕ) → Dec (k < a) → Dec (k < a + c * d) → getD l k 0 ≡ getD (laid (flat d e) a (c * d) x) k 0
-      go k (yes b) q = kept k (inl b) ∙ sym (laid-out _ a (c * d) x k 0 (inl b))
-      go k (no b) (yes q) = inside k (k - a) (omega arith) (omega arith)
-      go k (no b) (no q) = kept k (inr (omega arith)) ∙ sym (laid-out _ a (c * d) x k 0 (inr (omega arith)))
+  begun-all x l size fits w kept = laid-is (flat d e) a (c * d) 0 x l size fits (begun-at l w) kept

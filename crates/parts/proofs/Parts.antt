@@ -21,7 +21,7 @@ use Rattle.field.specs.Dot.{at, dot, along}
 use Rattle.field.proofs.Fields.{five-elim, field-five}
 use Rattle.field.proofs.Dot.{dot-step, dot-same, dot-comm, dot-le}
 use Rattle.lanes.proofs.Laws.{product-le}
-use Rattle.parts.specs.Inner.{entryH, entryG, past, lane, laneEntry, Column, Held}
+use Rattle.parts.specs.Inner.{entryH, entryG, PartRoom, AllRoom, past, lane, laneEntry, Column, Held}
 
 -- ROOM
 -- F and its rows lie in the array
@@ -53,6 +53,11 @@ module _ (p d : ℕ) (m F : List ℕ) (i : ℕ) where
   product-g b = ap (λ z. z % p) (dot-same d _ _ _ _ (λ k l. ap (λ t. getD m t 0) (omega arith)) (λ k l. ap (λ t. getD F t 0) (omega arith)))
 
 -- ONE HOLDER AFTER THE OTHER
+pub part-room : (p d n : ℕ) (m F gs hs out : List ℕ) (i : ℕ) → AllRoom p d n m F gs hs → i < n → length out ≡ n * d → PartRoom p d m i F out (i * d)
+part-room p d n m F gs hs out i r l e =
+    let w = row-fits n d i l in
+    record { above = r .above; small = r .small; row = omega (arith, w, r .rows); square = r .square; fits = omega (arith, w, e) }
+
 module _ (d : ℕ) (e : ℕ → ℕ → ℕ) (i : ℕ) where
   pub past-none : (l : List ℕ) → l ≡ past d e i i l
   unfolding past
@@ -76,18 +81,39 @@ module _ (d : ℕ) (e : ℕ → ℕ → ℕ) (i : ℕ) where
       laid-filled _ (flat d e) (i * d) (n * d - i * d) x l q (λ j m. refl) ∙ ap (λ t. filled (flat d e) t x) (omega (arith, w))
 
 -- SUMS IN LANES
-module _ (columns : List ℕ) (v : ℕ → ℕ) where
-  pub lanes-below : (k : ℕ) (sums : List ℕ) → Below 257 columns → ((j : ℕ) → v j < 257) → k ≤ 16 → sums ≡ tab 8 (λ t. dot k (lane columns t) v) → Below 1048577 sums
+module _ (table : List ℕ) (a w : ℕ) (v : ℕ → ℕ) where
+  pub lanes-below : (k : ℕ) (sums : List ℕ) → Below 257 table → ((j : ℕ) → v j < 257) → k ≤ 16 → sums ≡ tab 8 (λ t. dot k (lane table a w t) v) → Below 1048577 sums
   lanes-below k sums h g l e =
-      rw e (below-tab 1048577 8 _ (omega arith) (λ t m. omega (arith, dot-le k 65536 (lane columns t) v (λ j q. product-le _ _ (h _) (g j)))))
+      rw e (below-tab 1048577 8 _ (omega arith) (λ t m. omega (arith, dot-le k 65536 (lane table a w t) v (λ j q. product-le _ _ (h _) (g j)))))
 
-  pub lanes-step : (k : ℕ) (sums next : List ℕ) → sums ≡ tab 8 (λ t. dot k (lane columns t) v)
-      → next ≡ tab 8 (λ t. getD sums t 0 + v k * at columns (8 * k + t)) → next ≡ tab 8 (λ t. dot (k + 1) (lane columns t) v)
+  pub lanes-step : (k : ℕ) (sums next : List ℕ) → sums ≡ tab 8 (λ t. dot k (lane table a w t) v)
+      → next ≡ tab 8 (λ t. getD sums t 0 + v k * at table (a + k * w + t)) → next ≡ tab 8 (λ t. dot (k + 1) (lane table a w t) v)
   lanes-step k sums next e n =
-      n ∙ tab-ext 8 _ _ (λ t l. rw (e, getD-tab 8 (λ t. dot k (lane columns t) v) 0 t l, dot-step k (lane columns t) v) (omega arith))
+      n ∙ tab-ext 8 _ _ (λ t l. rw (e, getD-tab 8 (λ t. dot k (lane table a w t) v) 0 t l, dot-step k (lane table a w t) v) (omega arith))
 
 pub reduced : (p : ℕ) (u : ℕ → ℕ) (sums entries : List ℕ) → sums ≡ tab 8 u → entries ≡ tab 8 (λ t. getD sums t 0 % p) → (t : ℕ) → t < 8 → at entries t ≡ u t % p
 reduced p u sums entries e q t l = rw q (getD-tab 8 (λ t. getD sums t 0 % p) 0 t l ∙ ap (λ n. n % p) (rw e (getD-tab 8 u 0 t l)))
+
+-- some of those that are left, if any are, and no more than eight; eight, if some stay
+pub few-lanes : (left c : ℕ) → c ≡ pick (ltb left 8) left 8 → (c ≤ 8) × (c ≤ left) × (0 < left → 0 < c) × (c < left → c ≡ 8)
+few-lanes left c e = go (decLt left 8)
+  where
+    go : Dec (left < 8) → (c ≤ 8) × (c ≤ left) × (0 < left → 0 < c) × (c < left → c ≡ 8)
+    go (yes l) = let q = e ∙ ap (λ b. pick b left 8) (lt-ltb left 8 l) in (omega (arith, q), omega (arith, q), λ h. omega (arith, q), λ h. omega (arith, q))
+    go (no l) = let q = e ∙ ap (λ b. pick b left 8) (le-ltb left 8 (omega arith)) in (omega (arith, q), omega (arith, q), λ h. omega (arith, q), λ h. omega (arith, q))
+
+-- ENTRIES OF G IN LANES
+-- lane t of the rows of F from place b on is column b + t
+pub lane-of-g : (p d : ℕ) (m F : List ℕ) (i b t : ℕ) → dot d (lane F b d t) (along m (i * d) 1) % p ≡ entryG p d m F i (b + t)
+unfolding entryG
+lane-of-g p d m F i b t =
+    ap (λ z. z % p)
+    (dot-comm d (lane F b d t) (along m (i * d) 1)
+    ∙ dot-same d _ _ _ _ (λ k l. ap (λ n. getD m n 0) (omega arith)) (λ k l. ap (λ n. getD F n 0) (omega arith)))
+
+-- eight lanes from an entry on lie in the array
+pub lanes-fit : (d b k : ℕ) → d ≤ 16 → b < d → b % 8 ≡ 0 → k < d → b + k * d + 8 ≤ 256
+lanes-fit d b k h l z m = omega (arith, mul-le-mul {n₁ = k} {m₁ = d} {n₂ = 15} {m₂ = 16} (omega arith) h)
 
 -- COLUMNS
 module _ (c : ℕ) (u : ℕ → ℕ) (a : ℕ) (x : List ℕ) where
@@ -119,26 +145,18 @@ module _ (d : ℕ) (m : List ℕ) (i c : ℕ) where
         size = w .size ∙ h .size;
         small = w .small (h .small);
         right = λ t k q s.
-            either k r (lane l t k ≡ entry d m (i + t) k)
-            (λ z. rw z (w .written t (omega arith) q ∙ ap (λ n. getD m n 0) (omega arith)))
-            (λ z. w .kept (8 * k + t) (omega (arith, z)) ∙ h .right t k q (omega (arith, z)));
+            either k r (lane l 0 8 t k ≡ entry d m (i + t) k)
+            (λ z. rw z (ap (at l) (omega arith) ∙ w .written t (omega arith) q ∙ ap (λ n. getD m n 0) (omega arith)))
+            (λ z. w .kept (0 + k * 8 + t) (omega (arith, z)) ∙ h .right t k q (omega (arith, z)));
       }
 
 -- EIGHT HOLDERS
--- some of those that are left, if any are, and no more than eight
-pub few-lanes : (left c : ℕ) → c ≡ pick (ltb left 8) left 8 → (c ≤ 8) × (c ≤ left) × (0 < left → 0 < c)
-few-lanes left c e = rw e (go (decLt left 8))
-  where
-    go : Dec (left < 8) → (pick (ltb left 8) left 8 ≤ 8) × (pick (ltb left 8) left 8 ≤ left) × (0 < left → 0 < pick (ltb left 8) left 8)
-    go (yes l) = rw (lt-ltb left 8 l) (omega arith, omega arith, λ h. h)
-    go (no l) = rw (le-ltb left 8 (omega arith)) (omega arith, omega arith, λ h. omega arith)
-
 module _ (p d : ℕ) (m F : List ℕ) (i c : ℕ) (columns : List ℕ) (held : Held d d m i c columns) where
   lane-h : (t j : ℕ) → t < c → laneEntry p d columns F d 1 t j ≡ entryH p d m F (i + t) j
   unfolding laneEntry entryH
   lane-h t j l =
       ap (λ z. z % p)
-      (dot-comm d (lane columns t) (along F (j * d) 1)
+      (dot-comm d (lane columns 0 8 t) (along F (j * d) 1)
       ∙ dot-same d _ _ _ _ (λ b h. ap (λ n. getD F n 0) (omega arith)) (λ b h. held .right t b l h))
 
   lane-g : (t j : ℕ) → t < c → laneEntry p d columns F 1 d t j ≡ entryG p d m F (i + t) j

@@ -3,8 +3,8 @@
 -- PartRoom: row i lies in m, F is whole, and d entries from place a on lie in the list that is written
 -- AllRoom: n rows lie in m, F is whole, and so are the lists of all g and of all h
 -- past: the list l with the parts of the holders from i to n - 1, whose entries are e, each at its place
--- lane: the row of lane t, where eight lanes hold a column each
--- laneEntry: the product of lane t's row and line j of F, reduced; line j starts at j * a, and its entries lie s apart
+-- lane: lane t of a table, whose rows of eight lanes lie w apart from place a on
+-- laneEntry: the product of lane t of the columns and line j of F, reduced; line j starts at j * a, and its entries lie s apart
 -- Column: of the first r lanes, from place a on, those below c are u's entries, and all before them is as it was
 -- Held: the first r columns hold the entries of c holders' rows from holder i on
 -- EightRoom: what the parts of c holders, held in the columns, need
@@ -39,11 +39,11 @@ pub record AllRoom (p d n : ℕ) (m F gs hs : List ℕ) : Type 0 where
 unfoldable pub past : ℕ → (ℕ → ℕ → ℕ) → ℕ → ℕ → List ℕ → List ℕ
 past d e i n l = laid (λ t. flat d e (i * d + t)) (i * d) (n * d - i * d) l
 
-abbrev pub lane : List ℕ → ℕ → ℕ → ℕ
-lane columns t k = at columns (8 * k + t)
+abbrev pub lane : List ℕ → (a w t : ℕ) → ℕ → ℕ
+lane table a w t k = at table (a + k * w + t)
 
 unfoldable pub laneEntry : (p d : ℕ) (columns F : List ℕ) (a s : ℕ) → ℕ → ℕ → ℕ
-laneEntry p d columns F a s t j = dot d (lane columns t) (along F (j * a) s) % p
+laneEntry p d columns F a s t j = dot d (lane columns 0 8 t) (along F (j * a) s) % p
 
 pub record Column (r c : ℕ) (u : ℕ → ℕ) (a : ℕ) (before after : List ℕ) : Type 0 where
   pub size : length after ≡ length before
@@ -54,7 +54,7 @@ pub record Column (r c : ℕ) (u : ℕ → ℕ) (a : ℕ) (before after : List �
 pub record Held (r d : ℕ) (m : List ℕ) (i c : ℕ) (columns : List ℕ) : Type 0 where
   pub size : length columns ≡ 128
   pub small : Below 257 columns
-  pub right : (t k : ℕ) → t < c → k < r → lane columns t k ≡ entry d m (i + t) k
+  pub right : (t k : ℕ) → t < c → k < r → lane columns 0 8 t k ≡ entry d m (i + t) k
 
 pub record EightRoom (p d : ℕ) (columns : List ℕ) (c : ℕ) (F : List ℕ) (a s : ℕ) (out : List ℕ) (b : ℕ) : Type 0 where
   pub above : 0 < p

@@ -38,32 +38,8 @@ pub fn write_g(p: u16, d: usize, matrix: &[u16], i: usize, f: &[u16], out: &mut 
     }
 }
 
-// The parts of the holders from `first` on, one holder after the other.
-fn write_each(
-    p: u16,
-    d: usize,
-    first: usize,
-    n: usize,
-    matrix: &[u16],
-    f: &[u16],
-    gs: &mut [u16],
-    hs: &mut [u16],
-)
-    requires { ⌜ AllRoom p d n (now matrix) (now f) (now gs) (now hs) ⌝ }
-    requires { ⌜ first ≤ n ⌝ }
-    ensures { λ _. ⌜ now (gs .exit) ≡ past d (entryG p d (now (matrix .entry)) (now (f .entry))) first n (now (gs .entry)) ⌝ }
-    ensures { λ _. ⌜ now (hs .exit) ≡ past d (entryH p d (now (matrix .entry)) (now (f .entry))) first n (now (hs .entry)) ⌝ }
-{
-    let mut i = first;
-    while i < n {
-        write_h(p, d, matrix, i, f, hs, i * d);
-        write_g(p, d, matrix, i, f, gs, i * d);
-        i += 1;
-    }
-}
-
-// EIGHT HOLDERS
-// Where entries are at most 256, a sum of sixteen products fits in 32 bits, and the compiler works on the sums of eight holders at once, each in a lane.
+// LANES
+// Where entries are at most 256, a sum of sixteen products fits in 32 bits, and the compiler works on eight of them at once, each in a lane.
 // Eight remainders.
 fn remainders8(p: u16, sums: [u32; 8]) -> [u16; 8]
     requires { ⌜ 0 < p ⌝ }
@@ -92,13 +68,107 @@ fn residues8(p: u16, sums: [u32; 8]) -> [u16; 8]
     }
 }
 
-// How many of the holders that are left go into eight lanes.
+// How many of those that are left go into eight lanes.
 fn lanes_for(left: usize) -> usize
     ensures { λ r. ⌜ r ≡ pick (ltb left 8) left 8 ⌝ }
 {
     if left < 8 { left } else { 8 }
 }
 
+// The products of each lane's column and the line of x that starts at `start` and goes on by `step`. The lanes stand in a table of d rows, `wide` apart
+// from place `at` on.
+fn products(
+    d: usize,
+    table: &[u16],
+    at: usize,
+    wide: usize,
+    x: &[u16],
+    start: usize,
+    step: usize,
+) -> [u32; 8]
+    requires { ⌜ d ≤ 16 ⌝ }
+    requires { ⌜ Below 257 (now table) ⌝ }
+    requires { ⌜ Below 257 (now x) ⌝ }
+    requires { ⌜ ((k : ℕ) → k < d → (at + k * wide + 8 ≤ length (now table)) × (start + k * step < length (now x))) ⌝ }
+    ensures { λ r. ⌜ r ≡ tab 8 (λ t. dot d (lane (now (table .entry)) at wide t) (along (now (x .entry)) start step)) ⌝ }
+{
+    let mut sums = [0u32; 8];
+    let mut k = 0;
+    while k < d {
+        let next = lanes::add8(sums, x[start + k * step], table, at + k * wide);
+        sums = next;
+        k += 1;
+    }
+    sums
+}
+
+// The first `count` entries, `d` apart from place `at` on.
+fn put(d: usize, count: usize, entries: [u16; 8], out: &mut [u16], at: usize)
+    requires { ⌜ (0 < d) × (count ≤ 8) ⌝ }
+    requires { ⌜ ((t : ℕ) → t < count → at + t * d < length (now out)) ⌝ }
+    ensures { λ _. ⌜ Put d count at entries (now (out .entry)) (now (out .exit)) ⌝ }
+{
+    let mut t = 0;
+    while t < count {
+        out[at + t * d] = entries[t];
+        t += 1;
+    }
+}
+
+// Holder i's g, eight entries side by side: the rows of F are the table, and its lanes the columns. For entries of at most 256.
+fn write_g_in_lanes(
+    p: u16,
+    d: usize,
+    matrix: &[u16],
+    i: usize,
+    f: &[u16],
+    out: &mut [u16],
+    at: usize,
+)
+    requires { ⌜ PartRoom p d (now matrix) i (now f) (now out) at ⌝ }
+    requires { ⌜ Below 257 (now matrix) ⌝ }
+    requires { ⌜ Below 257 (now f) ⌝ }
+    ensures { λ _. ⌜ now (out .exit) ≡ laid (entryG p d (now (matrix .entry)) (now (f .entry)) i) at d (now (out .entry)) ⌝ }
+{
+    let mut b = 0;
+    while b < d {
+        let count = lanes_for(d - b);
+        let sums = products(d, f, b, d, matrix, i * d, 1);
+        put(1, count, residues8(p, sums), out, at + b);
+        b += count;
+    }
+}
+
+// ONE HOLDER AFTER THE OTHER
+// The parts of the holders from `first` on, one holder after the other.
+fn write_each(
+    p: u16,
+    d: usize,
+    first: usize,
+    n: usize,
+    matrix: &[u16],
+    f: &[u16],
+    gs: &mut [u16],
+    hs: &mut [u16],
+)
+    requires { ⌜ AllRoom p d n (now matrix) (now f) (now gs) (now hs) ⌝ }
+    requires { ⌜ (first ≤ n) × (p ≤ 257 → Below 257 (now matrix)) × (p ≤ 257 → Below 257 (now f)) ⌝ }
+    ensures { λ _. ⌜ now (gs .exit) ≡ past d (entryG p d (now (matrix .entry)) (now (f .entry))) first n (now (gs .entry)) ⌝ }
+    ensures { λ _. ⌜ now (hs .exit) ≡ past d (entryH p d (now (matrix .entry)) (now (f .entry))) first n (now (hs .entry)) ⌝ }
+{
+    let mut i = first;
+    while i < n {
+        write_h(p, d, matrix, i, f, hs, i * d);
+        if 257 < p {
+            write_g(p, d, matrix, i, f, gs, i * d);
+        } else {
+            write_g_in_lanes(p, d, matrix, i, f, gs, i * d);
+        }
+        i += 1;
+    }
+}
+
+// EIGHT HOLDERS
 // Entries of the matrix, `d` apart from place `from` on, into the first `count` of eight lanes.
 fn column(d: usize, matrix: &[u16], from: usize, count: usize, columns: &mut [u16], at: usize)
     requires { ⌜ (at + 8 ≤ length (now columns)) × Below 257 (now matrix) ⌝ }
@@ -128,37 +198,6 @@ fn fill_columns(d: usize, matrix: &[u16], i: usize, count: usize, columns: &mut 
     }
 }
 
-// The products of each lane's row and the line of F that starts at `start` and goes on by `step`.
-fn products(d: usize, columns: &[u16], f: &[u16], start: usize, step: usize) -> [u32; 8]
-    requires { ⌜ (d ≤ 16) × (length (now columns) ≡ 128) ⌝ }
-    requires { ⌜ Below 257 (now columns) ⌝ }
-    requires { ⌜ Below 257 (now f) ⌝ }
-    requires { ⌜ ((k : ℕ) → k < d → start + k * step < length (now f)) ⌝ }
-    ensures { λ r. ⌜ r ≡ tab 8 (λ t. dot d (lane (now (columns .entry)) t) (along (now (f .entry)) start step)) ⌝ }
-{
-    let mut sums = [0u32; 8];
-    let mut k = 0;
-    while k < d {
-        let next = lanes::add8(sums, f[start + k * step], columns, 8 * k);
-        sums = next;
-        k += 1;
-    }
-    sums
-}
-
-// The first `count` entries, `d` apart from place `at` on.
-fn put(d: usize, count: usize, entries: [u16; 8], out: &mut [u16], at: usize)
-    requires { ⌜ (0 < d) × (count ≤ 8) ⌝ }
-    requires { ⌜ ((t : ℕ) → t < count → at + t * d < length (now out)) ⌝ }
-    ensures { λ _. ⌜ Put d count at entries (now (out .entry)) (now (out .exit)) ⌝ }
-{
-    let mut t = 0;
-    while t < count {
-        out[at + t * d] = entries[t];
-        t += 1;
-    }
-}
-
 // The products of the first `count` lanes and the lines of F, into `out` from place `at` on. Line j starts at j * apart and goes on by `step`: along the
 // rows of F the products are the holders' h, along its columns their g.
 fn write_eight(
@@ -177,7 +216,7 @@ fn write_eight(
 {
     let mut j = 0;
     while j < d {
-        let sums = products(d, columns, f, j * apart, step);
+        let sums = products(d, columns, 0, 8, f, j * apart, step);
         put(d, count, residues8(p, sums), out, at + j);
         j += 1;
     }

@@ -1,4 +1,4 @@
--- After k columns each lane is the product of the first k entries of its row and of the line.
+-- After k rows of the table each lane is the product of its first k entries and those of the line.
 use Prim.Native.Nat.{_+_, _-_, _*_, _≤_}
 use mathlib.Core.Path.{_≡_, refl}
 use native.Mathlib.Nat.{le-antisymm}
@@ -13,36 +13,44 @@ use Rattle.parts.proofs.products.Statement.{statement}
 use Rattle.parts.proofs.products.Tie as tie
 
 abbrev Inv-loop : tie.InvT-loop
-Inv-loop d columns f start step sums₀ k₀ sums k = (k ≤ d) × (sums ≡ tab 8 (λ t. dot k (lane columns t) (along f start step)))
+Inv-loop d table at wide x start step sums₀ k₀ sums k = (k ≤ d) × (sums ≡ tab 8 (λ t. dot k (lane table at wide t) (along x start step)))
 
 abbrev μ-loop : tie.MeasureT-loop
-μ-loop d columns f start step sums₀ k₀ sums k = d - k
+μ-loop d table at wide x start step sums₀ k₀ sums k = d - k
 
 loop-holds : tie.Need-loop-holds Inv-loop μ-loop
 unfolding tab tabFrom dot sum
 loop-holds c = (search needs, refl)
 
 mul-add8 : tie.Need-mul-add8 Inv-loop μ-loop
-mul-add8 c = omega (arith, c .before .before .before .before .pre .1 .1 .1 (c .before .loop .k) (omega arith))
+mul-add8 c = omega (arith, c .before .before .before .before .pre .1 .1 .1 (c .before .loop .k) (omega arith) .1)
 
 add-add8 : tie.Need-add-add8 Inv-loop μ-loop
-add-add8 c = omega (arith, c .before .before .before .before .pre .1 .1 .1 (c .before .loop .k) (omega arith))
+add-add8 c = omega (arith, c .before .before .before .before .pre .1 .1 .1 (c .before .loop .k) (omega arith) .1)
 
 mul-add8-2 : tie.Need-mul-add8-2 Inv-loop μ-loop
-mul-add8-2 c = omega (arith, c .before .before .before .before .pre .1 .1 .1 (c .before .loop .k) (omega arith))
+mul-add8-2 c = omega (arith, c .before .before .before .before .pre .1 .1 .1 (c .before .loop .k) (omega arith) .1)
 
 shared-slice-read-add8 : tie.Need-shared-slice-read-add8 Inv-loop μ-loop
-shared-slice-read-add8 c = c .before .before .before .before .before .pre .1 .1 .1 (c .before .before .loop .k) (omega arith)
+shared-slice-read-add8 c = c .before .before .before .before .before .pre .1 .1 .1 (c .before .before .loop .k) (omega arith) .1
 
 mul-add8-3 : tie.Need-mul-add8-3 Inv-loop μ-loop
-mul-add8-3 c = omega (arith, c .before .before .before .before .before .pre .0 .0)
+mul-add8-3 c = omega (arith, c .before .before .before .before .before .pre .1 .1 .1 (c .before .before .loop .k) (omega arith) .0)
+
+add-add8-2 : tie.Need-add-add8-2 Inv-loop μ-loop
+add-add8-2 c = omega (arith, c .before .before .before .before .before .pre .1 .1 .1 (c .before .before .loop .k) (omega arith) .0)
 
 add8-requires : tie.Need-add8-requires Inv-loop μ-loop
 add8-requires c κs =
     let s = c .before .before .before .before .before in
-    let l = c .before .before .loop in (
-      (omega (arith, s .pre .1 .1 .0 (s .args .start + l .k * s .args .step)), omega (arith, s .pre .0 .1, s .pre .0 .0)),
-      (lanes-below (s .args .columns .now) (along (s .args .f .now) (s .args .start) (s .args .step)) (l .k) _ (s .pre .1 .0) (λ j. s .pre .1 .1 .0 (s .args .start + j * s .args .step)) (omega (arith, s .pre .0 .0)) (l .inv .1), s .pre .1 .0),
+    let l = c .before .before .loop in
+    let x = s .args in (
+      (omega (arith, s .pre .1 .1 .0 (x .start + l .k * x .step)), s .pre .1 .1 .1 (l .k) (omega arith) .0),
+      (
+        lanes-below (x .table .now) (x .at) (x .wide) (along (x .x .now) (x .start) (x .step)) (l .k) _ (s .pre .1 .0) (λ j. s .pre .1 .1 .0 (x .start + j * x .step))
+            (omega (arith, s .pre .0)) (l .inv .1),
+        s .pre .1 .0,
+      ),
     )
 
 add-k : tie.Need-add-k Inv-loop μ-loop
@@ -55,7 +63,7 @@ loop-again : tie.Need-loop-again Inv-loop μ-loop
 loop-again c =
     let l = c .before .before .before .loop in
     let x = c .before .before .before .before .before .before .args in
-    (search needs, lanes-step (x .columns .now) (along (x .f .now) (x .start) (x .step)) (l .k) (l .sums) _ (l .inv .1) (c .add8 .ensures))
+    (search needs, lanes-step (x .table .now) (x .at) (x .wide) (along (x .x .now) (x .start) (x .step)) (l .k) (l .sums) _ (l .inv .1) (c .add8 .ensures))
 
 returns : tie.Need-returns Inv-loop μ-loop
 returns c = rw (le-antisymm (c .before .loop .inv .0) (c .loop-test .left)) at (c .before .loop .inv .1)
@@ -72,6 +80,7 @@ products-spec =
     mul-add8-2
     shared-slice-read-add8
     mul-add8-3
+    add-add8-2
     add8-requires
     add-k
     loop-less

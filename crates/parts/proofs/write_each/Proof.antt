@@ -1,5 +1,6 @@
 -- The parts of the holders from `first` to i are written, each at its place.
 use Prim.Native.Nat.{_-_, _≤_}
+use mathlib.Core.Logic.{⊎-elim}
 use mathlib.Core.Path.{_≡_, refl, ap, _∙_}
 use native.Mathlib.Nat.{le-antisymm}
 use native.Mathlib.Omega.{arith}
@@ -8,7 +9,7 @@ use lib.ListN.{length}
 use Rattle.base.proofs.Matrix.{row-fits}
 use Rattle.base.proofs.Fill.{length-laid}
 use Rattle.parts.specs.Inner.{entryH, entryG, past}
-use Rattle.parts.proofs.Parts.{past-none, past-row}
+use Rattle.parts.proofs.Parts.{part-room, past-none, past-row}
 use Rattle.parts.proofs.write_each.Statement.{statement}
 use Rattle.parts.proofs.write_each.Tie as tie
 
@@ -21,7 +22,7 @@ abbrev μ-loop : tie.MeasureT-loop
 μ-loop p d first n matrix f gs₀ hs₀ i₀ gs hs i = n - i
 
 loop-holds : tie.Need-loop-holds Inv-loop μ-loop
-loop-holds c = let s = c .before .before .before .before in (search needs, s .pre .1, refl, refl, past-none _ _ _ _, past-none _ _ _ _)
+loop-holds c = let s = c .before .before .before .before in (search needs, s .pre .1 .0, refl, refl, past-none _ _ _ _, past-none _ _ _ _)
 
 mul-write-h : tie.Need-mul-write-h Inv-loop μ-loop
 mul-write-h c =
@@ -31,21 +32,31 @@ mul-write-h c =
 write-h-requires : tie.Need-write-h-requires Inv-loop μ-loop
 write-h-requires c κs =
     let s = c .before .before .before .before .before .before .before in
-    let w = row-fits (s .args .n) (s .args .d) (c .before .before .loop .i) (omega arith) in
-    record { above = s .pre .0 .above; small = s .pre .0 .small; row = omega (arith, w, s .pre .0 .rows); square = s .pre .0 .square; fits = omega (arith, w, s .pre .0 .fits .1, c .before .before .loop .inv .3) }
+    let l = c .before .before .loop in
+    part-room _ _ _ _ _ _ _ _ (l .i) (s .pre .0) (omega arith) (l .inv .3 ∙ s .pre .0 .fits .1)
 
 mul-write-g : tie.Need-mul-write-g Inv-loop μ-loop
 mul-write-g c =
-    let l = c .before .before .before .before .before .before in
-    let s = l .before .before .before .before .before in
-    omega (arith, row-fits (s .args .n) (s .args .d) (l .loop .i) (omega arith), s .pre .0 .rows)
+    let s = c .before .before .before .before .before .before .before .before .before .before .before .before in
+    omega (arith, row-fits (s .args .n) (s .args .d) (c .before .before .before .before .before .before .before .loop .i) (omega arith), s .pre .0 .rows)
 
 write-g-requires : tie.Need-write-g-requires Inv-loop μ-loop
 write-g-requires c κs =
-    let l = c .before .before .before .before .before .before in
-    let s = l .before .before .before .before .before in
-    let w = row-fits (s .args .n) (s .args .d) (l .loop .i) (omega arith) in
-    record { above = s .pre .0 .above; small = s .pre .0 .small; row = omega (arith, w, s .pre .0 .rows); square = s .pre .0 .square; fits = omega (arith, w, s .pre .0 .fits .0, l .loop .inv .2) }
+    let s = c .before .before .before .before .before .before .before .before .before .before .before .before in
+    let l = c .before .before .before .before .before .before .before .loop in
+    part-room _ _ _ _ _ _ _ _ (l .i) (s .pre .0) (omega arith) (l .inv .2 ∙ s .pre .0 .fits .0)
+
+mul-write-g-in-lanes : tie.Need-mul-write-g-in-lanes Inv-loop μ-loop
+mul-write-g-in-lanes c =
+    let s = c .before .before .before .before .before .before .before .before .before .before .before .before in
+    omega (arith, row-fits (s .args .n) (s .args .d) (c .before .before .before .before .before .before .before .loop .i) (omega arith), s .pre .0 .rows)
+
+write-g-in-lanes-requires : tie.Need-write-g-in-lanes-requires Inv-loop μ-loop
+write-g-in-lanes-requires c κs =
+    let s = c .before .before .before .before .before .before .before .before .before .before .before .before in
+    let l = c .before .before .before .before .before .before .before .loop in
+    let small = c .before .if1 .left in
+    (part-room _ _ _ _ _ _ _ _ (l .i) (s .pre .0) (omega arith) (l .inv .2 ∙ s .pre .0 .fits .0), (s .pre .1 .1 small, s .pre .1 .2 small))
 
 add-i : tie.Need-add-i Inv-loop μ-loop
 add-i c = search needs
@@ -55,9 +66,9 @@ loop-less c = search needs
 
 loop-again : tie.Need-loop-again Inv-loop μ-loop
 loop-again c =
-    let h = c .before .before .before .before .before .before .write-h .ensures in
-    let g = c .before .before .write-g .ensures in
-    let l = c .before .before .before .before .before .before .before .before .before .loop in (
+    let h = c .before .before .before .write-h .ensures in
+    let g = ⊎-elim (λ w. w .5 ∙ w .2 .ensures) (λ w. w .5 ∙ w .2 .ensures) (c .if1 .came) in
+    let l = c .before .before .before .before .before .before .loop in (
       search needs,
       search needs,
       ap length g ∙ length-laid _ _ _ _ ∙ l .inv .2,
@@ -88,6 +99,8 @@ write-each-spec =
     write-h-requires
     mul-write-g
     write-g-requires
+    mul-write-g-in-lanes
+    write-g-in-lanes-requires
     add-i
     loop-less
     loop-again

@@ -31,7 +31,7 @@ mul-products c = let s = c .before .before .before .before .before in omega (ari
 products-requires : tie.Need-products-requires Inv-loop μ-loop
 products-requires c κs =
     let s = c .before .before .before .before .before in
-    ((s .pre .few .0, s .pre .size), (s .pre .small .0, (s .pre .small .1, λ k l. s .pre .lines (c .before .loop .j) k (omega arith) l)))
+    (s .pre .few .0, (s .pre .small .0, (s .pre .small .1, λ k l. (omega (arith, s .pre .size, s .pre .few .0), s .pre .lines (c .before .loop .j) k (omega arith) l))))
 
 residues8-requires : tie.Need-residues8-requires Inv-loop μ-loop
 residues8-requires c κs = search needs
@@ -63,7 +63,7 @@ loop-again c =
       search needs,
       w .size ∙ l .inv .1,
       begun-put _ _ _ _ (l .j) _ _ _ _ (omega arith) refl (l .inv .2) w
-          (λ t m. reduced (x .p) (λ t. dot (x .d) (lane (x .columns .now) t) (along (x .f .now) (l .j * x .apart) (x .step))) _ _ (c .before .before .before .before .before .products .ensures) (c .before .before .before .before .residues8 .ensures) t (omega (arith, s .pre .few .1))),
+          (λ t m. reduced (x .p) (λ t. dot (x .d) (lane (x .columns .now) 0 8 t) (along (x .f .now) (l .j * x .apart) (x .step))) _ _ (c .before .before .before .before .before .products .ensures) (c .before .before .before .before .residues8 .ensures) t (omega (arith, s .pre .few .1))),
       λ k h. put-outside _ _ _ _ _ _ (l .j) _ (omega arith) refl w k h ∙ l .inv .3 k h,
     )
 

@@ -122,7 +122,7 @@ write-each-requires c κs =
         square = s .pre .0 .square;
         fits = (l .inv .1 ∙ s .pre .0 .fits .0, l .inv .2 ∙ s .pre .0 .fits .1);
       },
-      l .inv .0,
+      (l .inv .0, λ h. s .pre .1 .0, λ h. s .pre .1 .1),
     )
 
 same-length : tie.Need-same-length Inv-loop μ-loop
