@@ -222,7 +222,7 @@ fn write_eight(
     }
 }
 
-// Every holder's part, eight holders at a time and the last three or fewer one by one.
+// Every holder's part, eight holders at a time and the last four or fewer one by one.
 fn write_eights(
     p: u16,
     d: usize,
@@ -239,7 +239,7 @@ fn write_eights(
     ensures { λ _. ⌜ now (hs .exit) ≡ filled (flat d (entryH p d (now (matrix .entry)) (now (f .entry)))) (n * d) (now (hs .entry)) ⌝ }
 {
     let mut i = 0;
-    while 3 < n - i {
+    while 4 < n - i {
         let count = lanes_for(n - i);
         let mut columns = [0u16; 128];
         fill_columns(d, matrix, i, count, &mut columns);
