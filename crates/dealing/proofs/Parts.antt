@@ -14,11 +14,11 @@ use Rattle.base.specs.Matrix.{entry, flat, Below}
 use Rattle.base.proofs.Fill.{getD-tab, tab-ext, getD-filled, flat-at, laid-filled, laid-whole, filled-all}
 use Rattle.base.proofs.Matrix.{entry-fits, place-at, below-filled}
 use Rattle.field.specs.Dot.{at, dot, along}
-use Rattle.field.proofs.Dot.{dot-ext, dot-same}
+use Rattle.field.proofs.Dot.{dot-comm, dot-same}
 use Rattle.scheme.specs.Setup.{Setup, dim, row}
 use Rattle.scheme.specs.Dealing.{place, dealtEntry, dealt, partG, partH}
 use Rattle.scheme.proofs.Calls.{DealOk, limits-pos, below-vec}
-use Rattle.parts.specs.Inner.{entryH, entryG}
+use Rattle.parts.specs.Inner.{lineEntry, entryH, entryG}
 use Rattle.parts.proofs.Parts.{square-fits}
 use Rattle.dealing.specs.Inner.{sized}
 
@@ -93,13 +93,18 @@ module _
     pub dealt-below : DealOk S secrets random → Below (S .p) z → Below (S .p) F
     dealt-below ok zeros = rw is (below-filled (S .p) _ _ z (limits-pos S (ok .setup .limits)) (λ t l. entry-below S secrets random ok (t / dim S) (t % dim S)) zeros)
 
-    entry-g : (i b : ℕ) → b < dim S → entryG (S .p) (dim S) (S .M) F i b ≡ dot (dim S) (row S i) (λ k. entry (dim S) (dealt S secrets random) k b) % S .p
-    unfolding entryG
-    entry-g i b m = ap (λ n. n % S .p) (dot-ext (dim S) (row S i) _ _ (λ k h. same k b h m))
-
     entry-h : (i k : ℕ) → k < dim S → entryH (S .p) (dim S) (S .M) F i k ≡ dot (dim S) (λ b. entry (dim S) (dealt S secrets random) k b) (row S i) % S .p
-    unfolding entryH
-    entry-h i k h = ap (λ n. n % S .p) (dot-same (dim S) _ _ _ _ (λ b m. same k b h m) (λ b m. refl))
+    unfolding lineEntry
+    entry-h i k h =
+        ap (λ n. n % S .p)
+        (dot-comm (dim S) (along (S .M) (i * dim S) 1) (along F (k * dim S) 1)
+        ∙ dot-same (dim S) _ _ _ _ (λ b m. ap (λ t. getD F t 0) (omega arith) ∙ same k b h m) (λ b m. ap (λ t. getD (S .M) t 0) (omega arith)))
+
+    entry-g : (i b : ℕ) → b < dim S → entryG (S .p) (dim S) (S .M) F i b ≡ dot (dim S) (row S i) (λ k. entry (dim S) (dealt S secrets random) k b) % S .p
+    unfolding lineEntry
+    entry-g i b m =
+        ap (λ n. n % S .p)
+        (dot-same (dim S) _ _ _ _ (λ k h. ap (λ t. getD (S .M) t 0) (omega arith)) (λ k h. ap (λ t. getD F t 0) (omega arith) ∙ same k b h m))
 
     pub deal-g : (i : ℕ) (g : List ℕ) → length g ≡ dim S → laid (entryG (S .p) (dim S) (S .M) F i) 0 (dim S) g ≡ partG S (dealt S secrets random) i
     unfolding partG

@@ -95,7 +95,7 @@ fn deal_refusal(
     base::or_when(or_inputs(c, s, matrix, secrets, random), 5, s.n <= holder)
 }
 
-// A holder's part of a dealing.
+// A holder's part of a dealing: its h along the rows of F, then its g along the columns.
 pub fn deal(
     s: Params,
     matrix: &[u16],
@@ -116,8 +116,8 @@ pub fn deal(
     let d = s.dim();
     let mut f = [0u16; 256];
     fill_dealt(s, secrets, random, &mut f);
-    parts::write_h(s.p, d, matrix, holder as usize, &f, h, 0);
-    parts::write_g(s.p, d, matrix, holder as usize, &f, g, 0);
+    parts::write_one(s.p, d, matrix, holder as usize, &f, d, 1, h, 0);
+    parts::write_one(s.p, d, matrix, holder as usize, &f, 1, d, g, 0);
     Written::Done
 }
 

@@ -1,4 +1,4 @@
--- The laws of parts: what a product is an entry of, and parts written holder by holder or eight holders at a time.
+-- The laws of parts: where lines and lanes lie, and parts written holder by holder or eight holders at a time.
 use Prim.Native.Nat.{ℕ, _+_, _-_, _*_, _/_, _%_, _≤_, _<_}
 use mathlib.Core.Path.{_≡_, refl, ap, _∙_}
 use mathlib.Core.Bool.{true}
@@ -15,13 +15,13 @@ use Rattle.base.specs.Fill.{tab, laid, filled}
 use Rattle.base.specs.Matrix.{entry, flat, Below}
 use Rattle.base.proofs.Choice.{either}
 use Rattle.base.proofs.Fill.{getD-tab, tab-ext, laid-none, laid-parts, flat-at, laid-filled}
-use Rattle.base.proofs.Matrix.{row-fits, below-set, below-tab, place-at}
+use Rattle.base.proofs.Matrix.{row-fits, entry-fits, below-set, below-tab, place-at}
 use Rattle.field.specs.Fields.{isField}
 use Rattle.field.specs.Dot.{at, dot, along}
 use Rattle.field.proofs.Fields.{five-elim, field-five}
 use Rattle.field.proofs.Dot.{dot-step, dot-same, dot-comm, dot-le}
 use Rattle.lanes.proofs.Laws.{product-le}
-use Rattle.parts.specs.Inner.{entryH, entryG, PartRoom, AllRoom, past, lane, laneEntry, Column, Held}
+use Rattle.parts.specs.Inner.{lineEntry, entryG, PartRoom, AllRoom, past, lane, laneEntry, Column, Held}
 
 -- ROOM
 -- F and its rows lie in the array
@@ -34,29 +34,20 @@ square-row d k h l = omega (arith, row-fits d d k l, square-fits d h)
 pub rows-fit : (d i c n : ℕ) → i + c ≤ n → i * d + c * d ≤ n * d
 rows-fit d i c n h = omega (arith, mul-le-mul-right d h)
 
+-- entry k of row j of F, and entry k of its column j
+pub lines-inside : (d : ℕ) → d ≤ 16 → (j k : ℕ) → j < d → k < d → (j * d + k * 1 < 256) × (j * 1 + k * d < 256)
+lines-inside d h j k l m = (omega (arith, entry-fits d d j k l m, square-fits d h), omega (arith, entry-fits d d k j m l, square-fits d h))
+
 -- the one field above 257
 pub largest : (p : ℕ) → isField p ≡ true → 257 < p → p ≡ 65521
 largest p e = five-elim p (λ q. 257 < q → q ≡ 65521) (λ l. absurd (omega arith)) (λ l. absurd (omega arith)) (λ l. absurd (omega arith)) (λ l. absurd (omega arith)) (λ l. refl) (field-five p e)
 
--- ONE HOLDER
--- an entry of h runs along row i of the matrix and row k of F, an entry of g along row i and column b of F
-module _ (p d : ℕ) (m F : List ℕ) (i : ℕ) where
-  pub product-h : (k : ℕ) → dot d (along m (i * d) 1) (along F (k * d) 1) % p ≡ entryH p d m F i k
-  unfolding entryH
-  product-h k =
-      ap (λ z. z % p)
-      (dot-comm d (along m (i * d) 1) (along F (k * d) 1)
-      ∙ dot-same d _ _ _ _ (λ b l. ap (λ t. getD F t 0) (omega arith)) (λ b l. ap (λ t. getD m t 0) (omega arith)))
-
-  pub product-g : (b : ℕ) → dot d (along m (i * d) 1) (along F b d) % p ≡ entryG p d m F i b
-  unfolding entryG
-  product-g b = ap (λ z. z % p) (dot-same d _ _ _ _ (λ k l. ap (λ t. getD m t 0) (omega arith)) (λ k l. ap (λ t. getD F t 0) (omega arith)))
-
 -- ONE HOLDER AFTER THE OTHER
-pub part-room : (p d n : ℕ) (m F gs hs out : List ℕ) (i : ℕ) → AllRoom p d n m F gs hs → i < n → length out ≡ n * d → PartRoom p d m i F out (i * d)
-part-room p d n m F gs hs out i r l e =
+pub part-room : (p d n : ℕ) (m F gs hs out : List ℕ) (i a s : ℕ) → AllRoom p d n m F gs hs → i < n → length out ≡ n * d
+    → ((j k : ℕ) → j < d → k < d → j * a + k * s < length F) → PartRoom p d m i F a s out (i * d)
+part-room p d n m F gs hs out i a s r l e q =
     let w = row-fits n d i l in
-    record { above = r .above; small = r .small; row = omega (arith, w, r .rows); square = r .square; fits = omega (arith, w, e) }
+    record { above = r .above; small = r .small; row = omega (arith, w, r .rows); lines = q; fits = omega (arith, w, e) }
 
 module _ (d : ℕ) (e : ℕ → ℕ → ℕ) (i : ℕ) where
   pub past-none : (l : List ℕ) → l ≡ past d e i i l
@@ -105,7 +96,7 @@ few-lanes left c e = go (decLt left 8)
 -- ENTRIES OF G IN LANES
 -- lane t of the rows of F from place b on is column b + t
 pub lane-of-g : (p d : ℕ) (m F : List ℕ) (i b t : ℕ) → dot d (lane F b d t) (along m (i * d) 1) % p ≡ entryG p d m F i (b + t)
-unfolding entryG
+unfolding lineEntry
 lane-of-g p d m F i b t =
     ap (λ z. z % p)
     (dot-comm d (lane F b d t) (along m (i * d) 1)
@@ -152,31 +143,16 @@ module _ (d : ℕ) (m : List ℕ) (i c : ℕ) where
 
 -- EIGHT HOLDERS
 module _ (p d : ℕ) (m F : List ℕ) (i c : ℕ) (columns : List ℕ) (held : Held d d m i c columns) where
-  lane-h : (t j : ℕ) → t < c → laneEntry p d columns F d 1 t j ≡ entryH p d m F (i + t) j
-  unfolding laneEntry entryH
-  lane-h t j l =
-      ap (λ z. z % p)
-      (dot-comm d (lane columns 0 8 t) (along F (j * d) 1)
-      ∙ dot-same d _ _ _ _ (λ b h. ap (λ n. getD F n 0) (omega arith)) (λ b h. held .right t b l h))
+  lane-line : (a s t j : ℕ) → t < c → laneEntry p d columns F a s t j ≡ lineEntry p d m F a s (i + t) j
+  unfolding laneEntry lineEntry
+  lane-line a s t j l = ap (λ z. z % p) (dot-same d _ _ _ _ (λ k h. held .right t k l h ∙ ap (λ n. getD m n 0) (omega arith)) (λ k h. refl))
 
-  lane-g : (t j : ℕ) → t < c → laneEntry p d columns F 1 d t j ≡ entryG p d m F (i + t) j
-  unfolding laneEntry entryG
-  lane-g t j l = ap (λ z. z % p) (dot-same d _ _ _ _ (λ k h. held .right t k l h) (λ k h. ap (λ n. getD F n 0) (omega arith)))
-
-  rows-more : (f e : ℕ → ℕ → ℕ) → ((t j : ℕ) → t < c → f t j ≡ e (i + t) j) → (x l : List ℕ) → l ≡ filled (flat d e) (i * d) x
-      → laid (flat d f) (i * d) (c * d) l ≡ filled (flat d e) ((i + c) * d) x
-  rows-more f e s x l q =
-      laid-filled (flat d f) (flat d e) (i * d) (c * d) x l q
+  pub more-rows : (a s : ℕ) (x l : List ℕ) → l ≡ filled (flat d (lineEntry p d m F a s)) (i * d) x
+      → laid (flat d (laneEntry p d columns F a s)) (i * d) (c * d) l ≡ filled (flat d (lineEntry p d m F a s)) ((i + c) * d) x
+  more-rows a s x l q =
+      laid-filled (flat d (laneEntry p d columns F a s)) (flat d (lineEntry p d m F a s)) (i * d) (c * d) x l q
       (λ u h.
       let v = place-at d c u h in
       let y : u / d * d + u % d ≡ u = div-add-mod' u d in
-      s (u / d) (u % d) (v .1) ∙ flat-at d e (i + u / d) (u % d) (v .2) ∙ ap (flat d e) (omega (arith, y)))
-      ∙ ap (λ n. filled (flat d e) n x) (omega arith)
-
-  pub more-h : (x l : List ℕ) → l ≡ filled (flat d (entryH p d m F)) (i * d) x
-      → laid (flat d (laneEntry p d columns F d 1)) (i * d) (c * d) l ≡ filled (flat d (entryH p d m F)) ((i + c) * d) x
-  more-h = rows-more (laneEntry p d columns F d 1) (entryH p d m F) lane-h
-
-  pub more-g : (x l : List ℕ) → l ≡ filled (flat d (entryG p d m F)) (i * d) x
-      → laid (flat d (laneEntry p d columns F 1 d)) (i * d) (c * d) l ≡ filled (flat d (entryG p d m F)) ((i + c) * d) x
-  more-g = rows-more (laneEntry p d columns F 1 d) (entryG p d m F) lane-g
+      lane-line a s (u / d) (u % d) (v .1) ∙ flat-at d (lineEntry p d m F a s) (i + u / d) (u % d) (v .2) ∙ ap (flat d (lineEntry p d m F a s)) (omega (arith, y)))
+      ∙ ap (λ n. filled (flat d (lineEntry p d m F a s)) n x) (omega arith)

@@ -1,10 +1,11 @@
 -- Contracts of inner functions: what they write of a dealing, and what they need.
--- entryH, entryG: entry k of holder i's h = F m_i and entry b of its g = m_i F, from the matrix m and F, both by rows of d
--- PartRoom: row i lies in m, F is whole, and d entries from place a on lie in the list that is written
+-- lineEntry: the product of row i of the matrix m and line j of F, reduced; line j starts at j * a, and its entries lie s apart
+-- entryH, entryG: entry j of holder i's h = F m_i, along row j of F, and of its g = m_i F, along column j
+-- PartRoom: row i lies in m, the lines in F, and d entries from place b on in the list that is written
 -- AllRoom: n rows lie in m, F is whole, and so are the lists of all g and of all h
 -- past: the list l with the parts of the holders from i to n - 1, whose entries are e, each at its place
 -- lane: lane t of a table, whose rows of eight lanes lie w apart from place a on
--- laneEntry: the product of lane t of the columns and line j of F, reduced; line j starts at j * a, and its entries lie s apart
+-- laneEntry: the product of lane t of the columns and line j of F, reduced
 -- Column: of the first r lanes, from place a on, those below c are u's entries, and all before them is as it was
 -- Held: the first r columns hold the entries of c holders' rows from holder i on
 -- EightRoom: what the parts of c holders, held in the columns, need
@@ -16,18 +17,21 @@ use Rattle.base.specs.Fill.{laid}
 use Rattle.base.specs.Matrix.{entry, flat, Below}
 use Rattle.field.specs.Dot.{at, dot, along}
 
-unfoldable pub entryH : ℕ → ℕ → List ℕ → List ℕ → ℕ → ℕ → ℕ
-entryH p d m F i k = dot d (λ b. entry d F k b) (entry d m i) % p
+unfoldable pub lineEntry : (p d : ℕ) (m F : List ℕ) (a s : ℕ) → ℕ → ℕ → ℕ
+lineEntry p d m F a s i j = dot d (along m (i * d) 1) (along F (j * a) s) % p
 
-unfoldable pub entryG : ℕ → ℕ → List ℕ → List ℕ → ℕ → ℕ → ℕ
-entryG p d m F i b = dot d (entry d m i) (λ k. entry d F k b) % p
+abbrev pub entryH : (p d : ℕ) (m F : List ℕ) → ℕ → ℕ → ℕ
+entryH p d m F = lineEntry p d m F d 1
 
-pub record PartRoom (p d : ℕ) (m : List ℕ) (i : ℕ) (F out : List ℕ) (a : ℕ) : Type 0 where
+abbrev pub entryG : (p d : ℕ) (m F : List ℕ) → ℕ → ℕ → ℕ
+entryG p d m F = lineEntry p d m F 1 d
+
+pub record PartRoom (p d : ℕ) (m : List ℕ) (i : ℕ) (F : List ℕ) (a s : ℕ) (out : List ℕ) (b : ℕ) : Type 0 where
   pub above : 0 < p
   pub small : d ≤ 16
   pub row : i * d + d ≤ length m
-  pub square : length F ≡ 256
-  pub fits : a + d ≤ length out
+  pub lines : (j k : ℕ) → j < d → k < d → j * a + k * s < length F
+  pub fits : b + d ≤ length out
 
 pub record AllRoom (p d n : ℕ) (m F gs hs : List ℕ) : Type 0 where
   pub above : 0 < p

@@ -10,31 +10,30 @@ ghost use Rattle.base.specs.Fill.{tab, filled, laid, Put};
 ghost use Rattle.base.specs.Matrix.{flat, Below};
 ghost use Rattle.field.specs.Fields.{isField};
 ghost use Rattle.field.specs.Dot.{dot, along};
-ghost use Rattle.parts.specs.Inner.{entryH, entryG, PartRoom, AllRoom, past, lane, laneEntry, Column, Held, EightRoom};
+ghost use Rattle.parts.specs.Inner.{lineEntry, entryH, entryG, PartRoom, AllRoom, past, lane, laneEntry, Column, Held, EightRoom};
 use field::Field;
 
 // ONE HOLDER
-// Holder i's h = F m_i, along the rows of F, into `out` from place `at` on.
-pub fn write_h(p: u16, d: usize, matrix: &[u16], i: usize, f: &[u16], out: &mut [u16], at: usize)
-    requires { ⌜ PartRoom p d (now matrix) i (now f) (now out) at ⌝ }
-    ensures { λ _. ⌜ now (out .exit) ≡ laid (entryH p d (now (matrix .entry)) (now (f .entry)) i) at d (now (out .entry)) ⌝ }
+// The products of holder i's row and the lines of F, into `out` from place `at` on. Line j starts at j * apart and goes on by `step`: the rows of F start d
+// apart, and along them the products are h = F m_i; its columns start 1 apart and go on by d, and along them the products are g = m_i F.
+pub fn write_one(
+    p: u16,
+    d: usize,
+    matrix: &[u16],
+    i: usize,
+    f: &[u16],
+    apart: usize,
+    step: usize,
+    out: &mut [u16],
+    at: usize,
+)
+    requires { ⌜ PartRoom p d (now matrix) i (now f) apart step (now out) at ⌝ }
+    ensures { λ _. ⌜ now (out .exit) ≡ laid (lineEntry p d (now (matrix .entry)) (now (f .entry)) apart step i) at d (now (out .entry)) ⌝ }
 {
-    let mut k = 0;
-    while k < d {
-        out[at + k] = field::dot_product(p, d, matrix, i * d, f, k * d, 1);
-        k += 1;
-    }
-}
-
-// Holder i's g = m_i F, along the columns of F, into `out` from place `at` on.
-pub fn write_g(p: u16, d: usize, matrix: &[u16], i: usize, f: &[u16], out: &mut [u16], at: usize)
-    requires { ⌜ PartRoom p d (now matrix) i (now f) (now out) at ⌝ }
-    ensures { λ _. ⌜ now (out .exit) ≡ laid (entryG p d (now (matrix .entry)) (now (f .entry)) i) at d (now (out .entry)) ⌝ }
-{
-    let mut b = 0;
-    while b < d {
-        out[at + b] = field::dot_product(p, d, matrix, i * d, f, b, d);
-        b += 1;
+    let mut j = 0;
+    while j < d {
+        out[at + j] = field::dot_product(p, d, matrix, i * d, f, j * apart, step);
+        j += 1;
     }
 }
 
@@ -125,7 +124,7 @@ fn write_g_in_lanes(
     out: &mut [u16],
     at: usize,
 )
-    requires { ⌜ PartRoom p d (now matrix) i (now f) (now out) at ⌝ }
+    requires { ⌜ PartRoom p d (now matrix) i (now f) 1 d (now out) at × (length (now f) ≡ 256) ⌝ }
     requires { ⌜ Below 257 (now matrix) ⌝ }
     requires { ⌜ Below 257 (now f) ⌝ }
     ensures { λ _. ⌜ now (out .exit) ≡ laid (entryG p d (now (matrix .entry)) (now (f .entry)) i) at d (now (out .entry)) ⌝ }
@@ -158,9 +157,9 @@ fn write_each(
 {
     let mut i = first;
     while i < n {
-        write_h(p, d, matrix, i, f, hs, i * d);
+        write_one(p, d, matrix, i, f, d, 1, hs, i * d);
         if 257 < p {
-            write_g(p, d, matrix, i, f, gs, i * d);
+            write_one(p, d, matrix, i, f, 1, d, gs, i * d);
         } else {
             write_g_in_lanes(p, d, matrix, i, f, gs, i * d);
         }
@@ -198,8 +197,7 @@ fn fill_columns(d: usize, matrix: &[u16], i: usize, count: usize, columns: &mut 
     }
 }
 
-// The products of the first `count` lanes and the lines of F, into `out` from place `at` on. Line j starts at j * apart and goes on by `step`: along the
-// rows of F the products are the holders' h, along its columns their g.
+// The products of the first `count` lanes and the lines of F, into `out` from place `at` on: the holders' h along the rows of F, their g along its columns.
 fn write_eight(
     p: u16,
     d: usize,

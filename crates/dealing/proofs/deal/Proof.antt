@@ -9,6 +9,7 @@ use Rattle.base.proofs.Matrix.{row-fits}
 use Rattle.scheme.specs.Setup.{setupOf}
 use Rattle.base.proofs.Rules.{declined, unchanged}
 use Rattle.scheme.proofs.Calls.{deal-ok, limits-pos}
+use Rattle.parts.proofs.Parts.{lines-inside}
 use Rattle.dealing.proofs.Parts.{deal-g, deal-h}
 use Rattle.dealing.proofs.deal.Statement.{statement}
 use Rattle.dealing.proofs.deal.Tie as tie
@@ -45,41 +46,45 @@ fill-dealt-requires c κs =
       square = refl;
     }
 
-slice-aggregate-write-h : tie.Need-slice-aggregate-write-h
-slice-aggregate-write-h c = search needs
+slice-aggregate-write-one : tie.Need-slice-aggregate-write-one
+slice-aggregate-write-one c = search needs
 
-write-h-requires : tie.Need-write-h-requires
-write-h-requires c κs =
+write-one-requires : tie.Need-write-one-requires
+write-one-requires c κs =
     let e = c .before .before .before .before .before .before in
     let x = e .before .before .before .before .before .before .before .before .before .args in
     let z = sym (e .before .deal-refusal .ensures) ∙ e .if1 .left in
     let ok = deal-ok (setupOf (x .s) (x .matrix .now)) (x .secrets .now) (x .random .now) (x .holder) (x .g .now) (x .h .now) z in
     let d = c .before .before .before .before .before .dim .ensures .0 in
+    let few : c .before .before .before .before .before .dim .result ≤ 16 = omega (arith, ok .0 .setup .limits .secret, ok .0 .setup .limits .random, d) in
+    let square = ap length (c .before .before .before .fill-dealt .ensures) ∙ length-filled _ _ _ in
     let w = row-fits (x .s .n) (x .s .l + x .s .e) (x .holder) (ok .3) in
     record {
       above = limits-pos _ (ok .0 .setup .limits);
-      small = omega (arith, ok .0 .setup .limits .secret, ok .0 .setup .limits .random, d);
+      small = few;
       row = rw d (omega (arith, w, ok .0 .setup .matrix .size));
-      square = ap length (c .before .before .before .fill-dealt .ensures) ∙ length-filled _ _ _;
+      lines = λ j k m q. omega (arith, lines-inside (c .before .before .before .before .before .dim .result) few j k m q, square);
       fits = omega (arith, ok .2, d);
     }
 
-slice-aggregate-write-g : tie.Need-slice-aggregate-write-g
-slice-aggregate-write-g c = search needs
+slice-aggregate-write-one-2 : tie.Need-slice-aggregate-write-one-2
+slice-aggregate-write-one-2 c = search needs
 
-write-g-requires : tie.Need-write-g-requires
-write-g-requires c κs =
+write-one-requires-2 : tie.Need-write-one-requires-2
+write-one-requires-2 c κs =
     let e = c .before .before .before .before .before .before .before .before .before .before .before in
     let x = e .before .before .before .before .before .before .before .before .before .args in
     let z = sym (e .before .deal-refusal .ensures) ∙ e .if1 .left in
     let ok = deal-ok (setupOf (x .s) (x .matrix .now)) (x .secrets .now) (x .random .now) (x .holder) (x .g .now) (x .h .now) z in
     let d = c .before .before .before .before .before .before .before .before .before .before .dim .ensures .0 in
+    let few : c .before .before .before .before .before .before .before .before .before .before .dim .result ≤ 16 = omega (arith, ok .0 .setup .limits .secret, ok .0 .setup .limits .random, d) in
+    let square = ap length (c .before .before .before .before .before .before .before .before .fill-dealt .ensures) ∙ length-filled _ _ _ in
     let w = row-fits (x .s .n) (x .s .l + x .s .e) (x .holder) (ok .3) in
     record {
       above = limits-pos _ (ok .0 .setup .limits);
-      small = omega (arith, ok .0 .setup .limits .secret, ok .0 .setup .limits .random, d);
+      small = few;
       row = rw d (omega (arith, w, ok .0 .setup .matrix .size));
-      square = ap length (c .before .before .before .before .before .before .before .before .fill-dealt .ensures) ∙ length-filled _ _ _;
+      lines = λ j k m q. omega (arith, lines-inside (c .before .before .before .before .before .before .before .before .before .before .dim .result) few j k m q, square);
       fits = omega (arith, ok .1, d);
     }
 
@@ -102,8 +107,8 @@ returns-2 c =
     rw z (
       refl,
       (
-        rw d at (c .before .before .write-g .ensures) ∙ deal-g S _ _ _ _ few refl F (x .holder) (x .g .now) (ok .1),
-        rw d at (c .before .before .before .before .before .before .before .write-h .ensures) ∙ deal-h S _ _ _ _ few refl F (x .holder) (x .h .now) (ok .2),
+        rw d at (c .before .before .write-one2 .ensures) ∙ deal-g S _ _ _ _ few refl F (x .holder) (x .g .now) (ok .1),
+        rw d at (c .before .before .before .before .before .before .before .write-one .ensures) ∙ deal-h S _ _ _ _ few refl F (x .holder) (x .h .now) (ok .2),
       ),
     )
 
@@ -118,10 +123,10 @@ deal-spec =
     dim-requires
     slice-aggregate-fill-dealt
     fill-dealt-requires
-    slice-aggregate-write-h
-    write-h-requires
-    slice-aggregate-write-g
-    write-g-requires
+    slice-aggregate-write-one
+    write-one-requires
+    slice-aggregate-write-one-2
+    write-one-requires-2
     same-length-3
     same-length-4
     returns-2)

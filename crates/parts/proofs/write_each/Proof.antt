@@ -9,7 +9,7 @@ use lib.ListN.{length}
 use Rattle.base.proofs.Matrix.{row-fits}
 use Rattle.base.proofs.Fill.{length-laid}
 use Rattle.parts.specs.Inner.{entryH, entryG, past}
-use Rattle.parts.proofs.Parts.{part-room, past-none, past-row}
+use Rattle.parts.proofs.Parts.{lines-inside, part-room, past-none, past-row}
 use Rattle.parts.proofs.write_each.Statement.{statement}
 use Rattle.parts.proofs.write_each.Tie as tie
 
@@ -24,27 +24,27 @@ abbrev μ-loop : tie.MeasureT-loop
 loop-holds : tie.Need-loop-holds Inv-loop μ-loop
 loop-holds c = let s = c .before .before .before .before in (search needs, s .pre .1 .0, refl, refl, past-none _ _ _ _, past-none _ _ _ _)
 
-mul-write-h : tie.Need-mul-write-h Inv-loop μ-loop
-mul-write-h c =
+mul-write-one : tie.Need-mul-write-one Inv-loop μ-loop
+mul-write-one c =
     let s = c .before .before .before .before .before .before .before in
     omega (arith, row-fits (s .args .n) (s .args .d) (c .before .before .loop .i) (omega arith), s .pre .0 .rows)
 
-write-h-requires : tie.Need-write-h-requires Inv-loop μ-loop
-write-h-requires c κs =
+write-one-requires : tie.Need-write-one-requires Inv-loop μ-loop
+write-one-requires c κs =
     let s = c .before .before .before .before .before .before .before in
     let l = c .before .before .loop in
-    part-room _ _ _ _ _ _ _ _ (l .i) (s .pre .0) (omega arith) (l .inv .3 ∙ s .pre .0 .fits .1)
+    part-room _ _ _ _ _ _ _ _ (l .i) _ _ (s .pre .0) (omega arith) (l .inv .3 ∙ s .pre .0 .fits .1) (λ j k m q. omega (arith, lines-inside (s .args .d) (s .pre .0 .small) j k m q, s .pre .0 .square))
 
-mul-write-g : tie.Need-mul-write-g Inv-loop μ-loop
-mul-write-g c =
+mul-write-one-2 : tie.Need-mul-write-one-2 Inv-loop μ-loop
+mul-write-one-2 c =
     let s = c .before .before .before .before .before .before .before .before .before .before .before .before in
     omega (arith, row-fits (s .args .n) (s .args .d) (c .before .before .before .before .before .before .before .loop .i) (omega arith), s .pre .0 .rows)
 
-write-g-requires : tie.Need-write-g-requires Inv-loop μ-loop
-write-g-requires c κs =
+write-one-requires-2 : tie.Need-write-one-requires-2 Inv-loop μ-loop
+write-one-requires-2 c κs =
     let s = c .before .before .before .before .before .before .before .before .before .before .before .before in
     let l = c .before .before .before .before .before .before .before .loop in
-    part-room _ _ _ _ _ _ _ _ (l .i) (s .pre .0) (omega arith) (l .inv .2 ∙ s .pre .0 .fits .0)
+    part-room _ _ _ _ _ _ _ _ (l .i) _ _ (s .pre .0) (omega arith) (l .inv .2 ∙ s .pre .0 .fits .0) (λ j k m q. omega (arith, lines-inside (s .args .d) (s .pre .0 .small) j k m q, s .pre .0 .square))
 
 mul-write-g-in-lanes : tie.Need-mul-write-g-in-lanes Inv-loop μ-loop
 mul-write-g-in-lanes c =
@@ -56,7 +56,7 @@ write-g-in-lanes-requires c κs =
     let s = c .before .before .before .before .before .before .before .before .before .before .before .before in
     let l = c .before .before .before .before .before .before .before .loop in
     let small = c .before .if1 .left in
-    (part-room _ _ _ _ _ _ _ _ (l .i) (s .pre .0) (omega arith) (l .inv .2 ∙ s .pre .0 .fits .0), (s .pre .1 .1 small, s .pre .1 .2 small))
+    ((part-room _ _ _ _ _ _ _ _ (l .i) _ _ (s .pre .0) (omega arith) (l .inv .2 ∙ s .pre .0 .fits .0) (λ j k m q. omega (arith, lines-inside (s .args .d) (s .pre .0 .small) j k m q, s .pre .0 .square)), s .pre .0 .square), (s .pre .1 .1 small, s .pre .1 .2 small))
 
 add-i : tie.Need-add-i Inv-loop μ-loop
 add-i c = search needs
@@ -66,7 +66,7 @@ loop-less c = search needs
 
 loop-again : tie.Need-loop-again Inv-loop μ-loop
 loop-again c =
-    let h = c .before .before .before .write-h .ensures in
+    let h = c .before .before .before .write-one .ensures in
     let g = ⊎-elim (λ w. w .5 ∙ w .2 .ensures) (λ w. w .5 ∙ w .2 .ensures) (c .if1 .came) in
     let l = c .before .before .before .before .before .before .loop in (
       search needs,
@@ -95,10 +95,10 @@ write-each-spec =
     Inv-loop
     μ-loop
     loop-holds
-    mul-write-h
-    write-h-requires
-    mul-write-g
-    write-g-requires
+    mul-write-one
+    write-one-requires
+    mul-write-one-2
+    write-one-requires-2
     mul-write-g-in-lanes
     write-g-in-lanes-requires
     add-i

@@ -8,9 +8,9 @@ use lib.ListN.{length}
 use Rattle.base.specs.Fill.{filled}
 use Rattle.base.specs.Matrix.{flat}
 use Rattle.base.proofs.Fill.{filled-none, length-laid}
-use Rattle.base.proofs.Matrix.{entry-fits, below-zeros}
+use Rattle.base.proofs.Matrix.{below-zeros}
 use Rattle.parts.specs.Inner.{entryH, entryG}
-use Rattle.parts.proofs.Parts.{square-fits, rows-fit, past-filled, few-lanes, more-h, more-g}
+use Rattle.parts.proofs.Parts.{lines-inside, rows-fit, past-filled, few-lanes, more-rows}
 use Rattle.parts.proofs.write_eights.Statement.{statement}
 use Rattle.parts.proofs.write_eights.Tie as tie
 
@@ -63,7 +63,7 @@ write-eight-requires c κs =
       few = (s .pre .0 .small, w .0);
       size = h .size;
       small = (h .small, s .pre .1 .1);
-      lines = λ j k m q. omega (arith, entry-fits (s .args .d) (s .args .d) j k m q, square-fits (s .args .d) (s .pre .0 .small), s .pre .0 .square);
+      lines = λ j k m q. omega (arith, lines-inside (s .args .d) (s .pre .0 .small) j k m q, s .pre .0 .square);
       fits = omega (arith, rows-fit (s .args .d) (l .i) (c .before .before .before .before .before .lanes-for .result) (s .args .n) (omega (arith, w .1)), s .pre .0 .fits .1, l .inv .2);
     }
 
@@ -84,7 +84,7 @@ write-eight-requires-2 c κs =
       few = (s .pre .0 .small, w .0);
       size = h .size;
       small = (h .small, s .pre .1 .1);
-      lines = λ j k m q. omega (arith, entry-fits (s .args .d) (s .args .d) k j q m, square-fits (s .args .d) (s .pre .0 .small), s .pre .0 .square);
+      lines = λ j k m q. omega (arith, lines-inside (s .args .d) (s .pre .0 .small) j k m q, s .pre .0 .square);
       fits = omega (arith, rows-fit (s .args .d) (l .i) (c .before .before .before .before .before .before .before .before .before .before .lanes-for .result) (s .args .n) (omega (arith, w .1)), s .pre .0 .fits .0, l .inv .1);
     }
 
@@ -107,8 +107,8 @@ loop-again c =
       omega (arith, w .1),
       ap length g ∙ length-laid _ _ _ _ ∙ l .inv .1,
       ap length h ∙ length-laid _ _ _ _ ∙ l .inv .2,
-      g ∙ more-g (x .p) (x .d) (x .matrix .now) (x .f .now) (l .i) _ _ held _ _ (l .inv .3),
-      h ∙ more-h (x .p) (x .d) (x .matrix .now) (x .f .now) (l .i) _ _ held _ _ (l .inv .4),
+      g ∙ more-rows (x .p) (x .d) (x .matrix .now) (x .f .now) (l .i) _ _ held 1 (x .d) _ _ (l .inv .3),
+      h ∙ more-rows (x .p) (x .d) (x .matrix .now) (x .f .now) (l .i) _ _ held (x .d) 1 _ _ (l .inv .4),
     )
 
 write-each-requires : tie.Need-write-each-requires Inv-loop μ-loop

@@ -31,29 +31,29 @@ lanes-for-requires : tie.Need-lanes-for-requires Inv-loop μ-loop
 lanes-for-requires c κs = search needs
 
 mul-products : tie.Need-mul-products Inv-loop μ-loop
-mul-products c = let s = c .before .before .before .before .before .before in omega (arith, s .pre .0 .row)
+mul-products c = let s = c .before .before .before .before .before .before in omega (arith, s .pre .0 .0 .row)
 
 products-requires : tie.Need-products-requires Inv-loop μ-loop
 products-requires c κs =
     let s = c .before .before .before .before .before .before in
     let l = c .before .before .loop in
     let d = s .args .d in (
-      s .pre .0 .small,
-      (s .pre .1 .1, (s .pre .1 .0, λ k m. (omega (arith, lanes-fit d (l .b) k (s .pre .0 .small) (omega arith) (l .inv .1 (omega arith)) m, s .pre .0 .square), omega (arith, s .pre .0 .row)))),
+      s .pre .0 .0 .small,
+      (s .pre .1 .1, (s .pre .1 .0, λ k m. (omega (arith, lanes-fit d (l .b) k (s .pre .0 .0 .small) (omega arith) (l .inv .1 (omega arith)) m, s .pre .0 .1), omega (arith, s .pre .0 .0 .row)))),
     )
 
 residues8-requires : tie.Need-residues8-requires Inv-loop μ-loop
-residues8-requires c κs = c .before .before .before .before .before .before .before .pre .0 .above
+residues8-requires c κs = c .before .before .before .before .before .before .before .pre .0 .0 .above
 
 add-put : tie.Need-add-put Inv-loop μ-loop
-add-put c = omega (arith, c .before .before .before .before .before .before .before .before .before .pre .0 .fits)
+add-put c = omega (arith, c .before .before .before .before .before .before .before .before .before .pre .0 .0 .fits)
 
 put-requires : tie.Need-put-requires Inv-loop μ-loop
 put-requires c κs =
     let s = c .before .before .before .before .before .before .before .before .before in
     let l = c .before .before .before .before .before .loop in
     let w = few-lanes (s .args .d - l .b) _ (c .before .before .before .lanes-for .ensures) in
-    ((omega arith, w .0), λ t m. omega (arith, w .1, s .pre .0 .fits, l .inv .2))
+    ((omega arith, w .0), λ t m. omega (arith, w .1, s .pre .0 .0 .fits, l .inv .2))
 
 add-b : tie.Need-add-b Inv-loop μ-loop
 add-b c = omega (arith, few-lanes (c .before .before .before .before .before .before .before .before .before .before .before .before .args .d - c .before .before .before .before .before .before .before .before .loop .b) _ (c .before .before .before .before .before .before .lanes-for .ensures) .1)
@@ -74,7 +74,7 @@ loop-again c =
       omega (arith, w .1),
       λ m. omega (arith, w .3 (omega arith), l .inv .1 (omega arith)),
       u .size ∙ l .inv .2,
-      put-laid (λ t. e (l .b + t)) _ _ _ _ _ (omega (arith, w .1, s .pre .0 .fits, l .inv .2)) u
+      put-laid (λ t. e (l .b + t)) _ _ _ _ _ (omega (arith, w .1, s .pre .0 .0 .fits, l .inv .2)) u
           (λ t m.
           reduced (x .p) (λ t. dot (x .d) (lane (x .f .now) (l .b) (x .d) t) (along (x .matrix .now) (x .i * x .d) 1)) _ _ (c .before .before .before .before .before .products .ensures)
           (c .before .before .before .before .residues8 .ensures) t (omega (arith, w .0))
