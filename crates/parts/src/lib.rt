@@ -220,7 +220,7 @@ fn write_eight(
     }
 }
 
-// Every holder's part, eight holders at a time and the last four or fewer one by one.
+// Every holder's part: the h of up to eight holders, then their g, and on to the next; the last four or fewer one by one.
 fn write_eights(
     p: u16,
     d: usize,
