@@ -3,7 +3,7 @@ use mathlib.Core.Path.{_≡_, refl, ap, sym, _∙_}
 use mathlib.Core.List.{List, [], _∷_}
 use mathlib.Core.Logic.{_⊎_, inl, inr, ⊎-elim}
 use Prim.Native.Nat.{ℕ, zero, suc, _+_, _-_, _*_, _<_, _≤_}
-use native.Mathlib.Nat.{le-of-suc-le-suc, not-suc-le-zero, add-assoc, suc-mul, le-antisymm, add-zero, zero-add, add-suc}
+use native.Mathlib.Nat.{le-of-suc-le-suc, not-suc-le-zero, add-assoc, add-zero, zero-add, add-suc}
 use native.Mathlib.Numerals.{add-one}
 use native.Mathlib.Decide.{decLt}
 use native.Mathlib.Omega.{arith}
@@ -165,16 +165,6 @@ module _ {A : Type 0} where
   -- a row of a matrix that lies flat
   pub laid-row : (d : ℕ) (f : ℕ → ℕ → A) (i : ℕ) (x l : List A) → l ≡ filled (flat d f) (i * d) x → laid (f i) (i * d) d l ≡ filled (flat d f) ((i + 1) * d) x
   laid-row d f i x l e = laid-filled (f i) (flat d f) (i * d) d x l e (λ j m. flat-at d f i j m) ∙ ap (λ n. filled (flat d f) n x) (omega arith)
-
-  -- a store into a matrix that lies flat
-  pub flat-store : (d : ℕ) (f : ℕ → ℕ → A) (i c : ℕ) (x l : List A) (v : A) → l ≡ filled (flat d f) (i * d + c) x → c < d → v ≡ f i c
-      → set l (i * d + c) v ≡ filled (flat d f) (i * d + (c + 1)) x
-  flat-store d f i c x l v e h p = rw (← add-assoc) (filled-store (flat d f) (i * d + c) x l v e (p ∙ flat-at d f i c h))
-
-  -- a whole row more
-  pub flat-row : (d : ℕ) (f : ℕ → ℕ → A) (i c : ℕ) (x l : List A) → c ≤ d → d ≤ c → l ≡ filled (flat d f) (i * d + c) x
-      → l ≡ filled (flat d f) ((i + 1) * d) x
-  flat-row d f i c x l p q e = rw (add-one i, suc-mul) (rw (le-antisymm p q) at e)
 
 -- a table of numbers below p is a vector
 pub tab-vec : (p d : ℕ) (f : ℕ → ℕ) → ((k : ℕ) → k < d → f k < p) → Vec p d (tab d f)

@@ -24,12 +24,9 @@ use Rattle.lanes.proofs.Laws.{product-le}
 use Rattle.parts.specs.Inner.{lineEntry, entryG, PartRoom, AllRoom, past, lane, laneEntry, Column, Held}
 
 -- ROOM
--- F and its rows lie in the array
+-- F lies in the array
 pub square-fits : (d : ℕ) → d ≤ 16 → d * d ≤ 256
 square-fits d h = mul-le-mul {n₁ = d} {m₁ = d} {n₂ = 16} {m₂ = 16} h h
-
-pub square-row : (d k : ℕ) → d ≤ 16 → k < d → k * d + d ≤ 256
-square-row d k h l = omega (arith, row-fits d d k l, square-fits d h)
 
 pub rows-fit : (d i c n : ℕ) → i + c ≤ n → i * d + c * d ≤ n * d
 rows-fit d i c n h = omega (arith, mul-le-mul-right d h)
