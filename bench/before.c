@@ -19,7 +19,8 @@ static __typeof__(mavdrusek_deal_all) *const deal_all[] = {before_mavdrusek_deal
 static __typeof__(mavdrusek_deal_key) *const deal_key[] = {before_mavdrusek_deal_key, mavdrusek_deal_key};
 
 static uint16_t p, l, e, n, d;
-static uint16_t matrix[TURN][512], secrets[TURN][64], entries[TURN][256], gs[2][512], hs[2][512];
+static uint16_t matrix[TURN][512], secrets[TURN][64], entries[TURN][256], over[TURN][256], gs[2][512], hs[2][512];
+static uint16_t (*lent)[256] = entries;
 static uint8_t keys[TURN][16];
 static int slower;
 
@@ -31,7 +32,7 @@ static uint16_t one(int which, int t)
 
 static uint16_t all(int which, int t)
 {
-    return deal_all[which](p, l, e, n, matrix[t], (size_t)n * d, secrets[t], (size_t)l * l, entries[t], (size_t)d * d - l * l, gs[which], (size_t)n * d,
+    return deal_all[which](p, l, e, n, matrix[t], (size_t)n * d, secrets[t], (size_t)l * l, lent[t], (size_t)d * d - l * l, gs[which], (size_t)n * d,
                            hs[which], (size_t)n * d);
 }
 
@@ -51,6 +52,15 @@ static int rising(const void *a, const void *b)
 {
     double x = *(const double *)a, y = *(const double *)b;
     return (x > y) - (x < y);
+}
+
+/* Dealing to all, refused: the last random entry is p. */
+static uint16_t none(int which, int t)
+{
+    lent = over;
+    uint16_t refused = all(which, t);
+    lent = entries;
+    return refused != 4;
 }
 
 /* One line: the median time of a call before and after, and their ratio. Above 1.05 it is taken again, and that counts. */
@@ -96,6 +106,8 @@ static void setup(uint16_t a, uint16_t b, uint16_t c, uint16_t holders)
         draw(matrix[t], n * d);
         draw(secrets[t], l * l);
         draw(entries[t], d * d - l * l);
+        memcpy(over[t], entries[t], sizeof over[t]);
+        over[t][d * d - l * l - 1] = p;
         for (int k = 0; k < 16; k++)
             keys[t][k] = (uint8_t)rand();
     }
@@ -110,6 +122,7 @@ int main(void)
         setup(measured[k][0], measured[k][1], measured[k][2], measured[k][3]);
         line("deal", one);
         line("deal_all", all);
+        line("refused", none);
     }
     for (size_t k = 0; k < sizeof wide / sizeof *wide; k++) {
         setup(257, wide[k] / 2, wide[k] / 2, 16);
