@@ -221,6 +221,21 @@ pub fn calls(t: &mut Table, w: &World) {
             );
         }
     }
+    // the most work: all holders, and every position has a sweeping vector, since no row has an entry in a secret column
+    let unseen: Vec<Vec<u16>> =
+        (0..TURN).map(|k| w.m(k).iter().enumerate().map(|(at, &x)| if at % d < l { 0 } else { x }).collect()).collect();
+    let mut yes = 0;
+    t.line(
+        &name("private, all, yes"),
+        |k, look| {
+            let r = ours::private(s, &unseen[k], everyone(s), &mut yes);
+            give(look, || digest(r, &[yes]), r | yes)
+        },
+        |k, look| {
+            let r = reference::private(s, &unseen[k], everyone(s));
+            give(look, || of(&r, &[]), r.values[0])
+        },
+    );
 }
 
 /// Board keys. Their setup is fixed, so that the reference makes its matrix in each call; ours has it built in.

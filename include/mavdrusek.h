@@ -95,8 +95,9 @@ uint16_t mavdrusek_combine(uint16_t p, const uint16_t *constants, size_t constan
 /* Whether the set determines the secrets: *yes is 1 or 0. Refusals 1 to 5. */
 uint16_t mavdrusek_determines(uint16_t p, uint16_t l, uint16_t e, uint16_t n, const uint16_t *matrix, size_t matrix_len, uint32_t set, uint16_t *yes);
 
-/* Whether the set is called private, that is, has at most e members: *yes is 1 or 0. It counts members and does not look at their rows: on a matrix with
- * the row (1, 0) a set called private opens the secret. What a set can see of a position says mavdrusek_judge_set. Refusals 1 to 5. */
+/* Whether the set is called private, that is, every position below l has a sweeping vector, as mavdrusek_judge_set finds one: *yes is 1 or 0. On the
+ * points matrix these are the sets with e members or fewer. On another matrix the members' rows decide: a holder with the row (1, 0, .., 0) reads
+ * position 0, so that no set with it is private. A private set never determines the secrets; with l 1 every other set does. Refusals 1 to 5. */
 uint16_t mavdrusek_private(uint16_t p, uint16_t l, uint16_t e, uint16_t n, const uint16_t *matrix, size_t matrix_len, uint32_t set, uint16_t *yes);
 
 /* The judgement of a set at a position below l: *kind is 1, and `out` (32 entries) a reconstruction row, its entries by rising holder: the

@@ -42,6 +42,7 @@ pub const DEPENDENT: usize = 2;
 pub const POINTS: usize = 3;
 pub const ARBITRARY: usize = 5;
 pub const SPARSE: usize = 6;
+pub const SUPPLIED: usize = 7;
 
 /// What a case is drawn from.
 pub struct Draw<'a> {
@@ -79,6 +80,13 @@ impl<'a> Draw<'a> {
         Draw::with(r, s, kind)
     }
 
+    /// A supplier's matrix.
+    fn supplied(r: &'a mut Random) -> Self {
+        let p = PRIMES[r.below(5)];
+        let s = Params { p, l: 1 + r.below(4) as u16, e: 1 + r.below(4) as u16, n: 1 + r.below(8) as u16 };
+        Draw::with(r, s, SUPPLIED)
+    }
+
     pub fn with(r: &'a mut Random, s: Params, kind: usize) -> Self {
         let m = r.elements(s.p, s.entries());
         Draw::of(r, s, m, kind)
@@ -105,6 +113,22 @@ impl<'a> Draw<'a> {
             }
             POINTS | 4 => {
                 points(s, &mut m);
+            }
+            SUPPLIED => {
+                for i in 0..n {
+                    match r.below(5) {
+                        0 => {
+                            m[i * d..(i + 1) * d].fill(0);
+                            m[i * d + r.below(d)] = 1;
+                        }
+                        1 => m[i * d..(i + 1) * d].fill(0),
+                        2 if i > 0 => {
+                            let from = r.below(i);
+                            m.copy_within(from * d..(from + 1) * d, i * d);
+                        }
+                        _ => {}
+                    }
+                }
             }
             SPARSE => m.iter_mut().for_each(|x| *x = if r.chance(3) { *x } else { 0 }),
             _ => {}
@@ -490,5 +514,11 @@ pub fn draw(r: &mut Random, call: u16) -> Case {
         1..=4 if on_a_set => Draw::wide(r).case(call),
         _ => Draw::new(r).case(call),
     };
+    damaged(r, c)
+}
+
+/// A case of a call on a set, on a supplier's matrix: unit rows, zero rows, repeated rows and any.
+pub fn supplied(r: &mut Random, call: u16) -> Case {
+    let c = Draw::supplied(r).case(call);
     damaged(r, c)
 }

@@ -225,9 +225,34 @@ fn sets(r: &mut Random, cases: &mut Vec<Case>) {
         let s = params(p, 8, 8, 32);
         let m = matrix(r, s, POINTS);
         for set in [0, u32::MAX, 0xFFFF, 0x7FFF, 0xAAAAAAAA, 0xAAAAAAAB] {
-            cases.extend(on_set(r, &m, s, set, 7).into_iter().filter(|c| c.call != 10));
+            cases.extend(on_set(r, &m, s, set, 7));
         }
     }
+}
+
+/// Matrices from a supplier, over every field: unit rows, a zero row, a row twice. The questions about every set, and about single holders with unit rows.
+pub fn supplied_matrices(r: &mut Random) -> Vec<Case> {
+    let mut cases = vec![];
+    for p in PRIMES {
+        let s = params(p, 2, 3, 5);
+        let drawn = r.elements(p, 5);
+        let m = [&[1, 0, 0, 0, 0], &[0, 0, 0, 0, 1], &[0; 5], &drawn[..], &drawn[..]].concat();
+        for set in 0..32 {
+            cases.extend(on_set(r, &m, s, set, set as u16 % 2));
+        }
+        // document 01's row (1, 1, 0), a multiple of it, and one that sets the two positions apart
+        let m = [1, 1, 0, p - 1, p - 1, 0, 0, 1, 1];
+        for set in 0..8 {
+            cases.extend(on_set(r, &m, params(p, 2, 1, 3), set, set as u16 % 2));
+        }
+        // one unit row for each column: a holder alone reads its position, or nothing
+        let units: Vec<u16> = (0..49).map(|k| (k % 8 == 0) as u16).collect();
+        for set in (0..7).map(|i| 1 << i).chain([0b1110000, 0b1110001, 0b1001000]) {
+            cases.extend(on_set(r, &units, params(p, 4, 3, 7), set, set.trailing_zeros() as u16 % 4));
+        }
+    }
+    cases.retain(|c| c.call < 11);
+    cases
 }
 
 /// The points matrix at and past d + n = p, and over every field.

@@ -38,6 +38,12 @@ fn stored() -> (Vec<u8>, String) {
     for round in 0..60 {
         all.push(draw(&mut r, if round % 3 == 0 { DEAL_KEY } else { OPEN_KEY }));
     }
+    // the same for a supplier's matrices
+    let mut r = Random(20261117);
+    all.extend(edges::supplied_matrices(&mut r));
+    for round in 0..60 {
+        all.push(supplied(&mut r, 8 + round % 3));
+    }
     let (mut input, mut output) = (vec![], String::new());
     let mut counts = vec![BTreeMap::new(); CALLS.len()];
     for c in &all {

@@ -414,7 +414,7 @@ pub fn determines(s: Params, m: &[u16], set: u32) -> Answer {
 pub fn private(s: Params, m: &[u16], set: u32) -> Answer {
     match set_faults(&s, m, set).lowest() {
         Some(k) => refused(k),
-        None => given(&[(set.count_ones() <= s.e as u32) as u16]),
+        None => given(&[(0..s.l as usize).all(|q| sweeping_vector(&s, m, set, q).is_some()) as u16]),
     }
 }
 

@@ -509,8 +509,9 @@ impl Setup {
         Ok(yes == 1)
     }
 
-    /// Whether the set is called private, that is, has at most e members. It counts members and does not look at their rows: on a matrix with the row
-    /// (1, 0) a set called private opens the secret. What a set can see of a position says [`Setup::judge_set`]. Refusals 1 to 5.
+    /// Whether the set is called private, that is, every position below ℓ has a sweeping vector, as [`Setup::judge_set`] finds one. On the points matrix
+    /// these are the sets with e members or fewer. On another matrix the members' rows decide: a holder with the row (1, 0, .., 0) reads position 0, so
+    /// that no set with it is private. A private set never determines the secrets; with ℓ 1 every other set does. Refusals 1 to 5.
     pub fn private(&self, matrix: &[u16], set: u32) -> Result<bool, Refusal> {
         let Setup { p, l, e, n } = *self;
         let mut yes = 0;

@@ -75,14 +75,25 @@ fn openings() {
     assert_eq!(open(0, &[]), Err(Refusal::Undetermined { position: 0 }));
 }
 
-/// A set called private may open: with the row (1, 0) the share is the secret.
+/// With the row (1, 0) the share is the secret: one holder opens, though e is 1.
 #[test]
-fn called_private() {
+fn unit_row() {
     let setup = Setup { p: 7, l: 1, e: 1, n: 1 };
     let mut secret = [9];
-    assert_eq!(setup.private(&[1, 0], 0b1), Ok(true));
+    assert_eq!(setup.private(&[1, 0], 0b1), Ok(false));
     assert_eq!(setup.judge_set(&[1, 0], 0b1, 0, &mut [9; 32]), Ok(SetKind::Row));
     assert_eq!((setup.open(&[1, 0], 0b1, &[5], &mut secret), secret), (Ok(()), [5]));
+}
+
+/// A supplier's matrix with the row (1, 0, .., 0): holder 0 reads position 0 and no other, so that it is not private, though e is 3, and another is.
+#[test]
+fn supplied_matrix() {
+    let setup = Setup { p: 257, l: 4, e: 3, n: 2 };
+    let matrix = [1, 0, 0, 0, 0, 0, 0, 12, 34, 56, 78, 90, 123, 200];
+    let private = [0b00, 0b01, 0b10, 0b11].map(|set| setup.private(&matrix, set));
+    assert_eq!(private, [Ok(true), Ok(false), Ok(true), Ok(false)]);
+    let kinds = [0, 1, 2, 3].map(|position| setup.judge_set(&matrix, 0b01, position, &mut [9; 32]).unwrap());
+    assert_eq!(kinds, [SetKind::Row, SetKind::Vector, SetKind::Vector, SetKind::Vector]);
 }
 
 /// A false share of holder 2: beside holder 1 alone it opens to a false secret, beside two honest openers it is refused.
@@ -133,6 +144,7 @@ fn sets() {
 #[test]
 fn neither() {
     let setup = Setup { p: 7, l: 2, e: 1, n: 1 };
+    assert_eq!((setup.private(&[1, 1, 0], 0b1), setup.determines(&[1, 1, 0], 0b1)), (Ok(false), Ok(false)));
     for position in 0..2 {
         let mut out = [9; 32];
         assert_eq!(setup.judge_set(&[1, 1, 0], 0b1, position, &mut out), Ok(SetKind::Neither));

@@ -2,7 +2,7 @@
 use mathlib.Core.Path.{_≡_, refl}
 use mathlib.Core.Bool.{Bool, true, false, _&&_, false≢true}
 use mathlib.Core.Logic.{_⊎_, inl, inr}
-use Prim.Native.Nat.{ℕ, suc, _<_}
+use Prim.Native.Nat.{ℕ, suc, _≤_, _<_}
 use native.Mathlib.Omega.{arith}
 use lib.Dec.{eqb, ltb, T}
 use borrow.Author.Tests.{eqb-true, eqb-false, ltb-true, ltb-false}
@@ -51,3 +51,11 @@ T-both false b h k = h
 pub picked : {A : Type 0} (P : A → Type 0) (b : Bool) (x y : A) → P x → P y → P (pick b x y)
 picked P true x y h k = h
 picked P false x y h k = k
+
+-- and by a test for less, what holds on each side
+pub picked-below : {A : Type 0} (P : A → Type 0) (i n : ℕ) (x y : A) → (i < n → P x) → (n ≤ i → P y) → P (pick (ltb i n) x y)
+picked-below P i n x y f g = go (ltb i n) refl
+  where
+    go : (t : Bool) → ltb i n ≡ t → P (pick t x y)
+    go true e = f (ltb-true i n e)
+    go false e = g (ltb-false i n e)

@@ -31,6 +31,13 @@ unfolding every
 every-all zero t h = refl
 every-all (suc n) t h = and-both (every n t) (t n) (every-all n t (λ i l. h i (omega arith))) (h n (omega arith))
 
+pub every-fails : (n : ℕ) (t : ℕ → Bool) (i : ℕ) → i < n → t i ≡ false → every n t ≡ false
+every-fails n t i l f = go (every n t) refl
+  where
+    go : (b : Bool) → every n t ≡ b → b ≡ false
+    go true e = absurd (false≢true (sym f ∙ every-at n t e i l))
+    go false e = refl
+
 pub every-ext : (n : ℕ) (t u : ℕ → Bool) → ((i : ℕ) → i < n → t i ≡ u i) → every n t ≡ every n u
 unfolding every
 every-ext zero t u h = refl

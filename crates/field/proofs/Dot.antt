@@ -40,6 +40,10 @@ dot-comb d a b u v w =
 pub dot-comb-right : (d a b : ℕ) (u v w : ℕ → ℕ) → dot d w (λ j. a * u j + b * v j) ≡ a * dot d w u + b * dot d w v
 dot-comb-right d a b u v w = dot-comm d w _ ∙ dot-comb d a b u v w ∙ ap₂ (λ x y. a * x + b * y) (dot-comm d u w) (dot-comm d v w)
 
+pub dot-scale : (d a : ℕ) (w u : ℕ → ℕ) → dot d w (λ j. a * u j) ≡ a * dot d w u
+unfolding dot
+dot-scale d a w u = sum-ext d _ (λ j. a * (w j * u j)) (λ j l. omega arith) ∙ sum-scale d a _
+
 pub dot-mod : (p d : ℕ) (u v w : ℕ → ℕ) → ((j : ℕ) → j < d → u j % p ≡ v j % p) → dot d u w % p ≡ dot d v w % p
 unfolding dot
 dot-mod p d u v w h = sum-mod p d _ _ (λ i l. cong-mul p _ _ _ _ (h i l) refl)

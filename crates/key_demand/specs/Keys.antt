@@ -21,8 +21,8 @@ use Rattle.scheme.specs.Calls.{determinesCall, privateCall}
 use Rattle.board_keys.specs.Keys.{keySetup, dealKeyCall, dealKeyLeftG, memberCount, columnShares, openKeyCall, openKeyLeft}
 use Rattle.demand.specs.Demand.{Dealing, Member, Done, Terms, Present, Handed, handedIn, Array, column, ExactlyOne, Honest}
 
--- WHICH DEPOTS: "every seven depots" bring the key back, and no fewer; at most three are called private, by their number alone. That they learn nothing is
--- request A14
+-- WHICH DEPOTS: "every seven depots" bring the key back, and no fewer; three and no more are private: every position has a sweeping vector. That a private
+-- set learns nothing is request A14
 pub record KeySets (s : ℕ) : Type 0 where
   pub seven : 7 ≤ memberCount s → determinesCall keySetup s ≡ yes
   pub fewer : memberCount s < 7 → determinesCall keySetup s ≡ no

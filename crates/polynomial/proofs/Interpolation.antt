@@ -1,11 +1,13 @@
 -- Interpolation modulo a prime: Lagrange's row gives the value of every polynomial, and no other row does so even for the powers; so for the points
 -- matrix, whose nodes are 0, .., d - 1.
 use mathlib.Core.Path.{_≡_, refl, sym, ap, _∙_, _≡⟨_⟩_, _∎}
+use mathlib.Core.Bool.{Bool, true, false}
 use mathlib.Core.List.{[], _∷_}
 use Prim.Native.Nat.{ℕ, zero, suc, _+_, _*_, _%_, _^_, _≤_, _<_}
 use native.Mathlib.Omega.{arith}
 use native.Mathlib.Nat.{mod-lt, mod-mod, mod-eq-of-lt, zero-mod, pow-zero}
-use borrow.Author.Tests.{eq-eqb, ne-eqb}
+use lib.Dec.{ltb}
+use borrow.Author.Tests.{eq-eqb, ne-eqb, ltb-true, ltb-false}
 use Rattle.base.specs.Fill.{tab, tabFrom}
 use Rattle.base.specs.Search.{first, firstFrom}
 use Rattle.base.specs.Sum.{unit}
@@ -97,10 +99,20 @@ module _ (p : ℕ) (P : Prime p) (a : ℕ → ℕ) where
         dot d (lagrange p a d x) (unit j) % p ≡⟨ ap (λ z. z % p) (dot-comm d _ _ ∙ dot-unit d j _ l) ⟩
         lagrange p a d x j % p ∎
 
--- THE POINTS MATRIX
+-- NODES BELOW p
 -- numbers below p that differ are not congruent
 pub differ : {p i j : ℕ} → i < p → j < p → (i ≡ j → ⊥) → Cong p i j → ⊥
 differ l m h c = h (sym (mod-eq-of-lt l) ∙ c .eq ∙ mod-eq-of-lt m)
+
+-- so nodes that rise are distinct
+pub rising : {p d : ℕ} (a : ℕ → ℕ) → ((i : ℕ) → i < d → a i < p) → ((i j : ℕ) → i < j → j < d → a i < a j) → Distinct p d a
+rising a low up i j l m h = differ (low i l) (low j m) (λ e. go e (ltb i j) refl)
+  where
+    go : a i ≡ a j → (b : Bool) → ltb i j ≡ b → ⊥
+    go e true t = omega (arith, up i j (ltb-true i j t) m)
+    go e false t = omega (arith, up j i (omega (arith, ltb-false i j t, h)) l)
+
+-- THE POINTS MATRIX
 
 pub point-below : (p d i j : ℕ) → 0 < p → point p d i j < p
 unfolding point

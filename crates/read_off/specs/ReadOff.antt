@@ -2,10 +2,11 @@
 -- pivotRow: the row whose pivot stands in column q; R where there is none
 -- shown: entry j of the vector read off column b, the right side of the row whose pivot stands in column j; 0 where there is none
 -- unsolved: the first unused row with an entry in column b, an equation 0 = something; R where there is none
+-- allSolved: no unused row has an entry in any of the m columns from C on: every system with its right side in one of them has a solution
 -- elsewhere: column j is not q, and the row has an entry there
 -- alone: the row has no entry in the first C columns but at q
 -- fixes: position q is determined, as the reduced matrix shows it: the row with its pivot in q has no other entry in the first C columns
--- flatShown, flatUnsolved, flatFixes: shown, unsolved, fixes read off a buffer
+-- flatShown, flatUnsolved, flatAllSolved, flatFixes: shown, unsolved, allSolved, fixes read off a buffer
 -- Refutes: y combines the equations A x = b to 0 = something, so that there is no solution
 -- Beside: by the answer r of `unsolved`, a solution of the system with its right side in column b, or a refutation
 -- Unseen: A t = 0 for the k rows of A, and t is not 0 at position q
@@ -19,7 +20,7 @@ use mathlib.Core.Bool.{Bool, true, false, not, _&&_}
 use Prim.Native.Nat.{ℕ, suc, _+_, _-_, _*_, _%_, _<_}
 use lib.Dec.{eqb, leb, ltb}
 use Rattle.base.specs.Choice.{pick}
-use Rattle.base.specs.Search.{first}
+use Rattle.base.specs.Search.{every, first}
 use Rattle.base.specs.Sum.{unit}
 use Rattle.field.specs.Dot.{dot, RowFor}
 use Rattle.elimination.specs.Elimination.{State, pivotOf, reduced, Flat, view, flatPivot, Solution}
@@ -33,6 +34,9 @@ shown R b s j = let r = pivotRow R (s .used) j in pick (ltb r R) (s .mat r b) 0
 
 abbrev pub unsolved : (R b : ℕ) → State → ℕ
 unsolved R b s = pivotOf R b s
+
+unfoldable pub allSolved : (R C m : ℕ) → State → Bool
+allSolved R C m s = every m (λ q. leb R (unsolved R (C + q) s))
 
 unfoldable pub elsewhere : ℕ → (ℕ → ℕ) → ℕ → Bool
 elsewhere q row j = not (eqb q j) && not (eqb (row j) 0)
@@ -49,6 +53,9 @@ flatShown R W b s j = shown R b (view W s) j
 
 abbrev pub flatUnsolved : (R W b : ℕ) → Flat → ℕ
 flatUnsolved R W b s = flatPivot R W b s
+
+unfoldable pub flatAllSolved : (R W C m : ℕ) → Flat → Bool
+flatAllSolved R W C m s = allSolved R C m (view W s)
 
 unfoldable pub flatFixes : (R W C : ℕ) → Flat → ℕ → Bool
 flatFixes R W C s q = fixes R C (view W s) q

@@ -1,10 +1,10 @@
-// What is read off a matrix that `elimination` has reduced: whether a system has a solution, the solution, and whether a position is determined.
+// What is read off a matrix that `elimination` has reduced: whether systems have solutions, a solution, and whether a position is determined.
 ghost use mathlib.Core.Path.{_≡_};
 ghost use Prim.Native.Nat.{_+_, _<_, _≤_};
 ghost use lib.ListN.{length, getD};
 ghost use Rattle.base.specs.Fill.{tab};
 ghost use Rattle.field.specs.Dot.{at};
-ghost use Rattle.read_off.specs.ReadOff.{pivotRow, alone, flatShown, flatUnsolved, flatFixes};
+ghost use Rattle.read_off.specs.ReadOff.{pivotRow, alone, flatShown, flatUnsolved, flatAllSolved, flatFixes};
 ghost use Rattle.elimination.specs.Inner.{buffers, Fits};
 
 // The first unused row with an entry in column b, or `rows`, where the system with its right side there has a solution.
@@ -14,6 +14,29 @@ pub fn unsolved(a: &[u16], used: &[u16], rows: usize, width: usize, b: usize) ->
     ensures { λ r. ⌜ r ≡ flatUnsolved rows width b (buffers (now (a .entry)) (now (used .entry))) ⌝ }
 {
     elimination::find_pivot(a, used, rows, width, b)
+}
+
+// Whether the systems with their right sides in the `sides` columns behind the pivot columns all have solutions: whether no unused row has an entry there.
+pub fn all_solved(
+    a: &[u16],
+    used: &[u16],
+    rows: usize,
+    width: usize,
+    pivots: usize,
+    sides: usize,
+) -> bool
+    requires { ⌜ Fits rows width (now a) (now used) ⌝ }
+    requires { ⌜ pivots + sides ≤ width ⌝ }
+    ensures { λ r. ⌜ r ≡ flatAllSolved rows width pivots sides (buffers (now (a .entry)) (now (used .entry))) ⌝ }
+{
+    let mut q = 0;
+    while q < sides {
+        if unsolved(a, used, rows, width, pivots + q) < rows {
+            return false;
+        }
+        q += 1;
+    }
+    true
 }
 
 // The row whose pivot stands in column q, or `rows`.

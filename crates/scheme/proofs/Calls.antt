@@ -10,7 +10,7 @@ use lib.Dec.{eqb, leb, ltb, T}
 use lib.ListN.{length}
 use borrow.Author.Tests.{eqb-true, eq-eqb, ltb-false, le-ltb, leb-false, lt-leb, not-false}
 use Rattle.base.specs.Choice.{pick}
-use Rattle.base.specs.Rules.{Rule, _when_, refusal, Clear, Answer}
+use Rattle.base.specs.Rules.{Rule, _when_, refusal, Clear, Answer, answerBy}
 use Rattle.base.specs.Search.{Vec}
 use Rattle.base.specs.Matrix.{allBelow, Below}
 use Rattle.base.proofs.Rules.{positive, positive-both, clear, none-applies, clear-left, clear-right, refusal-after, not-refused}
@@ -301,11 +301,14 @@ decided : (b : Bool) → decide b ≡ yes → b ≡ true
 decided true e = refl
 decided false e = absurd (let z : _≡_ {A = ℕ} 0 1 = ap (λ (a : Answer). at (a .values) 0) e in omega arith)
 
--- a set that determines, by its call
+-- what a question's yes says
+pub decided-ok : (S : Setup) (s : ℕ) (b : Bool) → answerBy (refusal (setRules S s)) (decide b) ≡ yes → SetOk S s × (b ≡ true)
+decided-ok S s b e =
+    let r = not-refused (refusal (setRules S s)) (decide b) (1 ∷ []) e in
+    (set-ok S s (r .0), decided b (r .1))
+
 pub determines-ok : (S : Setup) (s : ℕ) → determinesCall S s ≡ yes → SetOk S s × (determines S (holds s) ≡ true)
-determines-ok S s e =
-    let r = not-refused (refusal (setRules S s)) (decide (determines S (holds s))) (1 ∷ []) e in
-    (set-ok S s (r .0), decided (determines S (holds s)) (r .1))
+determines-ok S s = decided-ok S s (determines S (holds s))
 
 module _ (S : Setup) (s q : ℕ) (out : List ℕ) where
   abbrev judgeSet-own : List Rule

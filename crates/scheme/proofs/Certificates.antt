@@ -27,7 +27,7 @@ use Rattle.scheme.specs.Sets.{members, hasRow, hasSweep, kind, determine
 use Rattle.scheme.specs.Opening.{gives, openedBy, opening}
 use Rattle.scheme.proofs.Sets.{count, rows, unit-mod, is-row, is-sweep, sweep-zeros, sweep-begins, ARow, AVector, row-there, sweep-there, theRow, theRow-is, same-entry}
 
-is-false : (b : Bool) → (b ≡ true → ⊥) → b ≡ false
+pub is-false : (b : Bool) → (b ≡ true → ⊥) → b ≡ false
 is-false true h = absurd (h refl)
 is-false false h = refl
 
@@ -93,10 +93,10 @@ module _ (S : Setup) (X : ℕ → Bool) (q : ℕ) where
             (λ c l. residues-at (S .p) (dim S) w c (omega arith) ∙ begins c l ∙ unit-mod (S .p) q c big);
       })
 
-  zeros-of : (v : AVector S X q) (a : ℕ) → a < count S X → dot (dim S) (rows S X a) (at (v .entries)) % S .p ≡ 0
+  pub zeros-of : (v : AVector S X q) (a : ℕ) → a < count S X → dot (dim S) (rows S X a) (at (v .entries)) % S .p ≡ 0
   zeros-of v = sweep-zeros S (members (S .n) X) q (v .entries) (v .is)
 
-  begins-of : (v : AVector S X q) (c : ℕ) → c < S .l → at (v .entries) c ≡ unit q c
+  pub begins-of : (v : AVector S X q) (c : ℕ) → c < S .l → at (v .entries) c ≡ unit q c
   begins-of v = sweep-begins S (members (S .n) X) q (v .entries) (v .is)
 
   -- a combination of the members' rows that is 0 at the columns from ℓ on, and not 0 at column q

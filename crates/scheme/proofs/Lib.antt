@@ -8,5 +8,6 @@ pub mod Answering
 pub mod NoColumns
 pub mod Grows
 pub mod Cases
+mod Supplier
 pub mod PointSets
 pub mod Interpolated

@@ -10,7 +10,7 @@ use mathlib.Core.Bool.{Bool, true, false, _&&_}
 use mathlib.Core.List.{List, [], _∷_}
 use mathlib.Core.Option.{Option, none, some}
 use Prim.Native.Nat.{ℕ, zero, suc, _/_, _%_, _^_}
-use lib.Dec.{eqb, leb}
+use lib.Dec.{eqb}
 use lib.ListN.{length}
 use Rattle.base.specs.Choice.{pick}
 use Rattle.base.specs.Rules.{Answer}
@@ -73,6 +73,7 @@ kind S X q = pick (hasRow S X q) isARow (pick (hasSweep S X q) isAVector isNeith
 unfoldable pub determines : Setup → (ℕ → Bool) → Bool
 determines S X = every (S .l) (hasRow S X)
 
--- "It is called private if it has at most e members"
+-- document 02, A5: "A set is now called private exactly if every position has a sweeping vector, as in source document 000", which has: "there exists, for
+-- each position j in s, a sweeping vector"
 unfoldable pub isPrivate : Setup → (ℕ → Bool) → Bool
-isPrivate S X = leb (length (members (S .n) X)) (S .e)
+isPrivate S X = every (S .l) (hasSweep S X)

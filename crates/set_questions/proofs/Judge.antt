@@ -1,7 +1,8 @@
 -- From reduced systems to the answers about a set: what a system shows is a reconstruction row or a sweeping vector, or a proof that there is none.
--- private-by, zeros-vec: the number of members decides whether the set is private; zeros may stand for shares
+-- zeros-vec: zeros may stand for shares
 -- row-fits, row-found, row-none: what the system for a reconstruction row shows
--- shown-below, vector-fits, vector-found, vector-none: what the system for a sweeping vector shows
+-- shown-below, vector-fits, vector-none, vector-found: what the system for a sweeping vector shows
+-- private-is: that system at all positions says whether the set is private
 -- judge-taken: what an accepted judgement says of its inputs
 -- judged-row, judged-vector, judged-neither, buffer-judged, buffer-declined: the answer of the call, and its buffer
 -- zeros-are, back: a buffer of zeros, and a part that comes back as it was
@@ -14,19 +15,20 @@ use native.Mathlib.Omega.{arith}
 use lib.Dec.{leb, ltb}
 use lib.ListN.{length, take, drop, replicate, length-replicate, length-drop, getD-replicate, take-append-drop}
 use lib.Seq.{ext-getD, getD-drop, getD-take}
-use borrow.Author.Tests.{lt-ltb, le-ltb}
+use borrow.Author.Tests.{lt-ltb, le-ltb, le-leb, lt-leb}
 use Rattle.base.specs.Choice.{pick}
 use Rattle.base.specs.Rules.{Answer, refusal}
 use Rattle.base.specs.Search.{Vec}
 use Rattle.base.specs.Fill.{tab}
 use Rattle.base.specs.Matrix.{entry, Below}
 use Rattle.base.specs.Sum.{unit}
+use Rattle.base.proofs.Search.{every-ext}
 use Rattle.base.proofs.Fill.{getD-tab, tab-vec, tab-ext, tab-is}
 use Rattle.field.specs.Dot.{at, RowFor}
 use Rattle.field.proofs.Congruence.{cong-two}
 use Rattle.field.proofs.Dot.{dot-ext, dot-same, dot-mod-right}
-use Rattle.read_off.specs.ReadOff.{shown, sweep, pivotRow, flatShown, flatUnsolved, Beside, solvable, refuted, Sweeps}
-use Rattle.elimination.specs.Elimination.{Flat, reduced, view}
+use Rattle.read_off.specs.ReadOff.{shown, sweep, pivotRow, flatShown, flatUnsolved, allSolved, flatAllSolved, Beside, solvable, refuted, Sweeps}
+use Rattle.elimination.specs.Elimination.{Flat, reduced, view, flatPivot}
 use Rattle.elimination.specs.Inner.{buffers, Fits}
 use Rattle.read_off.proofs.Reduced.{beside, solution-mod, refutes-mod, row-is, unseen-is, turned-left, turned-right, sweep-is, shown-small}
 use Rattle.read_off.proofs.Shows.{unsolved-shows, shown-shows}
@@ -36,18 +38,16 @@ use Rattle.scheme.specs.Sets.{holds, members, isRow, hasRow, isSweep, hasSweep,
 use Rattle.scheme.specs.Calls.{judgeSetRules, JudgeSetLeft, of-row, of-vector, of-neither}
 use Rattle.scheme.proofs.Calls.{set-accepts, judgeSet-ok}
 use Rattle.scheme.proofs.Sets.{rows, unit-mod, is-row, is-sweep, row-there, sweep-there}
-use Rattle.scheme.proofs.Certificates.{no-row, no-sweep, kind-row, kind-vector, kind-neither}
+use Rattle.scheme.proofs.Certificates.{no-row, sweep-in-hand, no-sweep, kind-row, kind-vector, kind-neither}
 use Rattle.set_systems.specs.Inner.{SetTaken, membersOf, across, aside, AcrossReduced, AsideReduced}
 use Rattle.set_systems.proofs.Members.{prime-of, wide, few, narrow, zeros, part-size}
 use Rattle.set_questions.specs.Buffer.{SetBuffer}
 use Rattle.set_questions.specs.Inner.{negated, RowSought, VectorSought}
 
--- PRIVATE AND DETERMINES
-pub private-by : {S : Setup} {s : ℕ} (ok : SetTaken S s) {r : ℕ} → r ≡ length (members 32 (holds s)) → isPrivate S (holds s) ≡ leb r (S .e)
-unfolding isPrivate
-private-by {S} ok e = ap (λ k. leb k (S .e)) (sym (e ∙ ap length (wide ok)))
+members-are : {S : Setup} {s : ℕ} (ok : SetTaken S s) {n : ℕ} → n ≡ length (members 32 (holds s)) → n ≡ length (membersOf S s)
+members-are ok K = K ∙ ap length (wide ok)
 
--- shares that are zeros
+-- DETERMINES: zeros stand for the shares
 pub zeros-vec : (p k n : ℕ) → 0 < p → k ≤ n → Vec p k (take k (zeros n))
 zeros-vec p k n pos l = record {
   size = sym (part-size k n l);
@@ -86,18 +86,15 @@ module _ {S : Setup} {s : ℕ} (ok : SetTaken S s) {q : ℕ} (inside : q < S .l)
   )
 
   module _ {n d : ℕ} (K : n ≡ length (members 32 (holds s))) (D : d ≡ dim S) where
-    row-count : n ≡ length (membersOf S s)
-    row-count = K ∙ ap length (wide ok)
-
     pub row-fits : Fits d (n + 1) a u
     row-fits =
-        rw (D, row-count) (record { size = R .shows .size; marks = R .shows .marks; narrow = omega (arith, few ok) })
+        rw (D, members-are ok K) (record { size = R .shows .size; marks = R .shows .marks; narrow = omega (arith, few ok) })
 
     module _ {f : ℕ} (g : f ≡ flatUnsolved d (n + 1) n (buffers a u)) where
       row-certificate : Beside (S .p) (dim S) k k A f
       unfolding k A
       row-certificate =
-          rw ((rw (D, row-count) at g) ∙ unsolved-shows (S .p) (dim S) (k + 1) (buffers a u) _ (R .shows) k (omega arith))
+          rw ((rw (D, members-are ok K) at g) ∙ unsolved-shows (S .p) (dim S) (k + 1) (buffers a u) _ (R .shows) k (omega arith))
           (beside (S .p) (prime-of ok) (dim S) k k A)
 
       pub row-found : d ≤ f → (old : List ℕ) → length old ≡ n → {left : List ℕ} → left ≡ tab (length old) (flatShown d (n + 1) n (buffers a u)) → RowSought S s q old true left
@@ -106,7 +103,7 @@ module _ {S : Setup} {s : ℕ} (ok : SetTaken S s) {q : ℕ} (inside : q < S .l)
         where
           shows : left ≡ tab k x
           shows =
-              (rw (size, D, row-count) at e)
+              (rw (size, D, members-are ok K) at e)
               ∙ tab-ext k _ x (λ i m. shown-shows (S .p) (dim S) (k + 1) (buffers a u) _ (R .shows) k (omega arith) i)
 
           go : Beside (S .p) (dim S) k k A f → Vec (S .p) k left × (isRow S (membersOf S s) q left ≡ true)
@@ -144,6 +141,10 @@ negative-is p x big l = go (p - 1) (p - x) (omega arith) (omega arith)
   where
     go : (n m : ℕ) → n + 1 ≡ p → m + x ≡ p → m % p ≡ (n * x) % p
     go n m e f = cong-two p x 1 m (n * x) (omega (arith, ap (λ z. x * z) e))
+
+pub vector-fits : {S : Setup} {s : ℕ} (ok : SetTaken S s) {a u : List ℕ} → AsideReduced S s a u → {n d : ℕ} → n ≡ length (members 32 (holds s)) → d ≡ dim S
+    → Fits n d a u
+vector-fits ok R K D = rw (D, members-are ok K) (record { size = R .shows .size; marks = R .shows .marks; narrow = omega (arith, narrow ok) })
 
 module _ {S : Setup} {s : ℕ} (ok : SetTaken S s) {q : ℕ} (inside : q < S .l) {a u : List ℕ} (R : AsideReduced S s a u) where
   G : ℕ → ℕ → ℕ
@@ -193,41 +194,46 @@ module _ {S : Setup} {s : ℕ} (ok : SetTaken S s) {q : ℕ} (inside : q < S .l)
         (λ j l. getD-tab (dim S) v 0 j (omega arith) ∙ v-first j l),
   )
 
-  module _ {n d : ℕ} (K : n ≡ length (members 32 (holds s))) (D : d ≡ dim S) where
-    vector-count : n ≡ length (membersOf S s)
-    vector-count = K ∙ ap length (wide ok)
+  module _ {n d : ℕ} (K : n ≡ length (members 32 (holds s))) (D : d ≡ dim S) {f : ℕ} (g : f ≡ flatUnsolved n d (S .e + q) (buffers a u)) where
+    vector-certificate : Beside (S .p) m (S .e) (S .e + q) G f
+    unfolding m G
+    vector-certificate =
+        rw ((rw (D, members-are ok K) at g) ∙ unsolved-shows (S .p) m (dim S) (buffers a u) _ (R .shows) (S .e + q) (omega arith))
+        (beside (S .p) (prime-of ok) m (S .e) (S .e + q) G)
 
-    pub vector-fits : Fits n d a u
-    vector-fits =
-        rw (D, vector-count) (record { size = R .shows .size; marks = R .shows .marks; narrow = omega (arith, narrow ok) })
+    -- the position has a sweeping vector exactly where its column is solved
+    swept-is : leb n f ≡ hasSweep S (holds s) q
+    unfolding m G y
+    swept-is = go vector-certificate
+      where
+        go : Beside (S .p) m (S .e) (S .e + q) G f → leb n f ≡ hasSweep S (holds s) q
+        go (solvable z h) =
+            let t = sweep-is (S .p) (prime-of ok) m (S .l) (S .e) (rows S (holds s)) q inside y h in
+            le-leb n f (omega (arith, members-are ok K)) ∙ sym (sweep-in-hand S (holds s) q (prime-of ok .big) (sweep (S .p) (S .l) q y) (t .zeros) (t .first))
+        go (refuted z w h) =
+            lt-leb n f (omega (arith, members-are ok K))
+            ∙ sym (no-sweep S (holds s) q w inside
+            (λ j o. ap (λ z. z % S .p) (dot-ext m w _ _ (λ i l. sym (in-last i j o))) ∙ h .kills j o)
+            (λ t. h .keeps (ap (λ z. z % S .p) (dot-ext m w _ _ (λ i l. in-first i)) ∙ t)))
 
-    module _ {f : ℕ} (g : f ≡ flatUnsolved n d (S .e + q) (buffers a u)) where
-      vector-certificate : Beside (S .p) m (S .e) (S .e + q) G f
-      unfolding m G
-      vector-certificate =
-          rw ((rw (D, vector-count) at g) ∙ unsolved-shows (S .p) m (dim S) (buffers a u) _ (R .shows) (S .e + q) (omega arith))
-          (beside (S .p) (prime-of ok) m (S .e) (S .e + q) G)
+    pub vector-none : f < n → (old : List ℕ) → VectorSought S s q old false old
+    vector-none l old = record { found = λ t. absurd (false≢true t); none = λ t. (sym swept-is ∙ lt-leb n f l, refl) }
 
-      pub vector-found : n ≤ f → (old : List ℕ) → length old ≡ d → {left : List ℕ}
-          → left ≡ tab (length old) (negated (S .p) n (length old) (S .l) (S .e) q (buffers a u)) → VectorSought S s q old true left
-      unfolding m G y v
-      vector-found l old size {left} e = record { found = λ t. go vector-certificate; none = λ t. absurd (false≢true (sym t)) }
-        where
-          go : Beside (S .p) m (S .e) (S .e + q) G f → Vec (S .p) (dim S) left × (isSweep S (membersOf S s) q left ≡ true)
-          go (solvable z h) =
-              rw (rw (size, D, vector-count) at e) (vector-is (sweep-is (S .p) (prime-of ok) m (S .l) (S .e) (rows S (holds s)) q inside y h))
-          go (refuted z w h) = absurd (omega (arith, vector-count))
+    pub vector-found : n ≤ f → (old : List ℕ) → length old ≡ d → {left : List ℕ}
+        → left ≡ tab (length old) (negated (S .p) n (length old) (S .l) (S .e) q (buffers a u)) → VectorSought S s q old true left
+    unfolding m G y v
+    vector-found l old size {left} e = record { found = λ t. go vector-certificate; none = λ t. absurd (false≢true (sym t)) }
+      where
+        go : Beside (S .p) m (S .e) (S .e + q) G f → Vec (S .p) (dim S) left × (isSweep S (membersOf S s) q left ≡ true)
+        go (solvable z h) =
+            rw (rw (size, D, members-are ok K) at e) (vector-is (sweep-is (S .p) (prime-of ok) m (S .l) (S .e) (rows S (holds s)) q inside y h))
+        go (refuted z w h) = absurd (omega (arith, members-are ok K))
 
-      pub vector-none : f < n → (old : List ℕ) → VectorSought S s q old false old
-      unfolding m G
-      vector-none l old = record { found = λ t. absurd (false≢true t); none = λ t. (go vector-certificate, refl) }
-        where
-          go : Beside (S .p) m (S .e) (S .e + q) G f → hasSweep S (holds s) q ≡ false
-          go (solvable z h) = absurd (omega (arith, vector-count))
-          go (refuted z w h) =
-              no-sweep S (holds s) q w inside
-              (λ j o. ap (λ z. z % S .p) (dot-ext m w _ _ (λ i l. sym (in-last i j o))) ∙ h .kills j o)
-              (λ t. h .keeps (ap (λ z. z % S .p) (dot-ext m w _ _ (λ i l. in-first i)) ∙ t))
+-- PRIVATE
+pub private-is : {S : Setup} {s : ℕ} (ok : SetTaken S s) {a u : List ℕ} → AsideReduced S s a u → {n d : ℕ} → n ≡ length (members 32 (holds s)) → d ≡ dim S
+    → flatAllSolved n d (S .e) (S .l) (buffers a u) ≡ isPrivate S (holds s)
+unfolding flatAllSolved allSolved isPrivate flatPivot
+private-is {S} ok R K D = every-ext (S .l) _ _ (λ q l. swept-is ok l R K D refl)
 
 -- THE JUDGEMENT
 pub judge-taken : (S : Setup) (s q : ℕ) (out : List ℕ) → refusal (judgeSetRules S s q out) ≡ 0 → SetTaken S s × (length out ≡ 32) × (q < S .l)

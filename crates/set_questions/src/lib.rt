@@ -1,6 +1,6 @@
 // The three questions about a set, open calls: whether it is private, whether it determines the secrets, and what it is at a position. Each first works
-// out its refusal by the table of scheme's specs/Calls.antt. Where there is none `private` counts the members; the other two eliminate systems of
-// `set_systems`, in buffers of their own, and read the answer off.
+// out its refusal by the table of scheme's specs/Calls.antt. Where there is none it eliminates systems of `set_systems`, in buffers of its own, and reads
+// the answer off.
 ghost use mathlib.Core.Path.{_≡_};
 ghost use Prim.Native.Nat.{_+_, _<_};
 ghost use lib.ListN.{length, replicate};
@@ -20,7 +20,7 @@ use scheme::Params;
 use scheme::SetJudged;
 
 // PRIVATE
-// Whether a set is called private: whether it has at most e members.
+// Whether a set is called private: whether every position has a sweeping vector. One elimination serves all positions.
 pub fn private(s: Params, matrix: &[u16], set: u32) -> Decided
     ensures { λ r. ⌜ paperDecided r ≡ privateCall (setupOf s (now (matrix .entry))) set ⌝ }
 {
@@ -28,7 +28,17 @@ pub fn private(s: Params, matrix: &[u16], set: u32) -> Decided
     if refusal != 0 {
         return Decided::Refused(refusal);
     }
-    if set_systems::size(set) <= (s.e as usize) {
+    let mut buffer = [0u16; 512];
+    let mut marks = [0u16; 32];
+    let l = s.l as usize;
+    let e = s.e as usize;
+    let d = s.dim();
+    let k = set_systems::size(set);
+    let end = k * d;
+    let a = &mut buffer[..end];
+    let used = &mut marks[..k];
+    set_systems::reduce_aside(s, matrix, set, a, used);
+    if read_off::all_solved(a, used, k, d, e, l) {
         Decided::Yes
     } else {
         Decided::No

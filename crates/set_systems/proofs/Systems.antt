@@ -13,14 +13,14 @@ use native.Mathlib.Nat.{zero-add}
 use native.Mathlib.Omega.{arith}
 use lib.Dec.{ltb}
 use lib.ListN.{length, getD, set, take}
-use borrow.Author.Tests.{lt-ltb, le-ltb, not-false}
+use borrow.Author.Tests.{lt-ltb, le-ltb, not-false, not-true}
 use Rattle.base.specs.Choice.{pick}
 use Rattle.base.specs.Search.{every, first, Vec}
 use Rattle.base.specs.Fill.{filled, laid}
 use Rattle.base.specs.Matrix.{entry, flat}
 use Rattle.base.specs.Sum.{unit}
 use Rattle.base.proofs.Choice.{either}
-use Rattle.base.proofs.Search.{first-le, first-ext, missing-all, found-there, every-at, every-all}
+use Rattle.base.proofs.Search.{first-le, first-ext, missing-all, found-there, every-all, every-fails}
 use Rattle.base.proofs.Sum.{unit-same, unit-other}
 use Rattle.field.specs.Dot.{at, dot}
 use Rattle.field.proofs.Dot.{dot-ext, dot-same}
@@ -186,10 +186,4 @@ module _ (S : Setup) (X : ℕ → Bool) (r : ℕ) (e : r ≡ first (λ q. not (h
 
   pub determines-not : r < S .l → determines S X ≡ false
   unfolding determines
-  determines-not l = go (every (S .l) (hasRow S X)) refl
-    where
-      go : (b : Bool) → every (S .l) (hasRow S X) ≡ b → b ≡ false
-      go false d = refl
-      go true d =
-          absurd (false≢true (sym (ap not (every-at (S .l) (hasRow S X) d r l))
-          ∙ rw e (found-there (λ q. not (hasRow S X q)) (S .l) (rw e at l))))
+  determines-not l = every-fails (S .l) (hasRow S X) r l (not-true _ (rw e (found-there (λ q. not (hasRow S X q)) (S .l) (rw e at l))))

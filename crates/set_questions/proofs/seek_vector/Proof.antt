@@ -28,7 +28,7 @@ fits c =
     let r = reduced c in
     let k = at-size (r .before) in
     let b = start k in
-    vector-fits (b .pre .0) (b .pre .1 .0) (r .reduce-aside .ensures) (k .size .ensures .0) (b .pre .1 .1)
+    vector-fits (b .pre .0) (r .reduce-aside .ensures) (k .size .ensures .0) (b .pre .1 .1)
 
 size-requires : tie.Need-size-requires
 size-requires c κs = search needs
