@@ -5,11 +5,11 @@ use Prim.Native.Nat.{ℕ}
 use lib.ListN.{getD}
 use Rattle.base.specs.Fill.{tab, tabFrom, laid}
 use Rattle.base.specs.Matrix.{flat}
-use Rattle.base.specs.Search.{first, firstFrom}
+use Rattle.base.specs.Search.{every, first, firstFrom}
 use Rattle.base.specs.Sum.{bit}
 use Rattle.field.specs.Prime.{inverseOf}
 use Rattle.row_steps.specs.Rows.{addRow, scaleRow}
-use Rattle.read_off.specs.ReadOff.{pivotRow, shown, unsolved, elsewhere, alone, fixes, flatShown, flatUnsolved, flatFixes}
+use Rattle.read_off.specs.ReadOff.{pivotRow, shown, unsolved, allSolved, elsewhere, alone, fixes, flatShown, flatUnsolved, flatFixes}
 use Rattle.elimination.specs.Elimination.{State, scaled, clear, usable, pivotOf, useRow, column, gauss, start, reduced, clearRow, clearTo, Flat, flatPivot, flatUse, flatColumn, flatReduce}
 use Rattle.elimination.specs.Inner.{buffers}
 
@@ -31,6 +31,8 @@ table :
     (tab 2 (shown 2 2 (after (6 ∷ 4 ∷ 1 ∷ []) (2 ∷ 4 ∷ 0 ∷ [])))
     -- x + 2 y = 3, 2 x + 4 y = 5: row 1 has no solution; with 6 for 5 there is one
     ∷ (unsolved 2 2 (after (1 ∷ 2 ∷ 3 ∷ []) (2 ∷ 4 ∷ 5 ∷ [])) ∷ unsolved 2 2 (after (1 ∷ 2 ∷ 3 ∷ []) (2 ∷ 4 ∷ 6 ∷ [])) ∷ [])
+    -- the same as a question of all right sides
+    ∷ (bit (allSolved 2 2 1 (after (1 ∷ 2 ∷ 3 ∷ []) (2 ∷ 4 ∷ 5 ∷ []))) ∷ bit (allSolved 2 2 1 (after (1 ∷ 2 ∷ 3 ∷ []) (2 ∷ 4 ∷ 6 ∷ []))) ∷ [])
     -- 3 x = 5 and 6 x = 3: position 0 is determined, 1 is not
     ∷ tab 2 (λ q. bit (fixes 2 2 (after (3 ∷ 0 ∷ 5 ∷ []) (6 ∷ 0 ∷ 3 ∷ [])) q))
     -- x + 2 y = 3 alone determines neither
@@ -45,6 +47,7 @@ table :
     ∷ [])
     ≡ ((2 ∷ 6 ∷ [])
     ∷ (1 ∷ 2 ∷ [])
+    ∷ (0 ∷ 1 ∷ [])
     ∷ (1 ∷ 0 ∷ [])
     ∷ (0 ∷ 0 ∷ [])
     ∷ (1 ∷ 0 ∷ 2 ∷ 0 ∷ 1 ∷ 6 ∷ [])
@@ -54,5 +57,5 @@ table :
     ∷ (1 ∷ [])
     ∷ (1 ∷ 0 ∷ [])
     ∷ [])
-unfolding tab tabFrom laid first firstFrom bit inverseOf scaled clear usable pivotOf useRow column gauss start reduced pivotRow shown elsewhere alone fixes addRow scaleRow clearRow clearTo flatPivot flatUse flatColumn flatReduce flatShown flatFixes
+unfolding tab tabFrom laid first firstFrom bit inverseOf scaled clear usable pivotOf useRow column gauss start reduced pivotRow shown every allSolved elsewhere alone fixes addRow scaleRow clearRow clearTo flatPivot flatUse flatColumn flatReduce flatShown flatFixes
 table = refl

@@ -1,5 +1,5 @@
 -- Matrices from a supplier (document 02, A5), computed: whether a set is private depends on its members' rows and not on their number.
--- supplier: e is 3, and holder 0 has the row (1, 0, .., 0): "a single depot reads position 0, though e is 3"; holder 1 has a row like a fair one
+-- supplier: e is 3, and holder 0 has the row (1, 0, .., 0): "a single depot reads position 0, though e is 3"; holder 1 has an entry in every column
 -- between: ℓ is 2 and e is 1; the row (1, 1, 0) shows the sum of the two positions and neither of them
 use mathlib.Core.Path.{_≡_, refl}
 use mathlib.Core.List.{[], _∷_}

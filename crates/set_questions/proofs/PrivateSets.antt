@@ -3,7 +3,7 @@
 use mathlib.Core.Path.{_≡_, refl, sym, ap, _∙_}
 use mathlib.Core.Bool.{Bool, true, false, not}
 use mathlib.Core.Logic.{_⊎_, inl, inr}
-use Prim.Native.Nat.{ℕ, _+_, _*_, _%_, _≤_, _<_}
+use Prim.Native.Nat.{ℕ, _*_, _%_, _≤_, _<_}
 use native.Mathlib.Nat.{mod-lt, mod-eq-of-lt, mul-zero, mul-comm, zero-mod}
 use native.Mathlib.Omega.{arith}
 use Rattle.base.specs.Rules.{refusal}
@@ -21,7 +21,7 @@ use Rattle.read_off.proofs.Reduced.{determined}
 use Rattle.scheme.specs.Setup.{Setup, dim}
 use Rattle.scheme.specs.Answers.{yes, no}
 use Rattle.scheme.specs.Sets.{holds, hasRow, hasSweep, determines, isPrivate}
-use Rattle.scheme.specs.Calls.{setRules, decide, determinesCall, privateCall}
+use Rattle.scheme.specs.Calls.{setRules, determinesCall, privateCall}
 use Rattle.scheme.proofs.Calls.{set-ok, decided-ok, limits-prime}
 use Rattle.scheme.proofs.Cases.{ex}
 use Rattle.scheme.proofs.Certificates.{is-false, row-in-hand, no-row, sweep-in-hand, never-both}
@@ -93,6 +93,6 @@ private-sets = record {
   one-yes = λ S s one z. yes-or-no S s (alternative S (holds s) (limits-prime S (set-ok S s z .setup .limits)) one) z;
 }
 
--- document 01's example has one position: holder 0 alone is private there, and holders 0 and 2 determine the secret
-example : (isPrivate ex (holds 1) ≡ not (determines ex (holds 1))) × (isPrivate ex (holds 5) ≡ not (determines ex (holds 5)))
-example = (private-sets .one-position ex (holds 1) prime-7 refl, private-sets .one-position ex (holds 5) prime-7 refl)
+-- document 01's example has one position
+example : (X : ℕ → Bool) → isPrivate ex X ≡ not (determines ex X)
+example X = private-sets .one-position ex X prime-7 refl

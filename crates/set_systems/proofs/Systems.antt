@@ -6,7 +6,7 @@
 -- beside-fits, eliminated-le: what was eliminated lies in its buffers, and the lowest position with no row is at most ℓ
 -- determines-by, determines-not: that position says whether the set determines the secrets
 use mathlib.Core.Path.{_≡_, refl, sym, ap, _∙_}
-use mathlib.Core.Bool.{Bool, true, false, not, false≢true}
+use mathlib.Core.Bool.{Bool, true, false, not}
 use mathlib.Core.List.{List}
 use Prim.Native.Nat.{ℕ, _+_, _-_, _*_, _%_, _≤_, _<_}
 use native.Mathlib.Nat.{zero-add}
@@ -15,7 +15,7 @@ use lib.Dec.{ltb}
 use lib.ListN.{length, getD, set, take}
 use borrow.Author.Tests.{lt-ltb, le-ltb, not-false, not-true}
 use Rattle.base.specs.Choice.{pick}
-use Rattle.base.specs.Search.{every, first, Vec}
+use Rattle.base.specs.Search.{first, Vec}
 use Rattle.base.specs.Fill.{filled, laid}
 use Rattle.base.specs.Matrix.{entry, flat}
 use Rattle.base.specs.Sum.{unit}
