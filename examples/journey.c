@@ -114,7 +114,7 @@ int main(void)
     uint16_t verdicts[N], named[N], kept, first, position = 0, yes, kind, fair, checker, sender;
     uint16_t column[L], combined[N], row[32];
 
-    /* The matrix of board keys, a points matrix, which dealing and opening have built in: any 7 holders determine the key, any 3 learn nothing. */
+    /* The matrix of board keys, a points matrix, which dealing and opening have built in: any 7 holders determine the key, any 3 are private. */
     expect(mavdrusek_points(SETUP, matrix, N * D) == 0, "the points matrix");
     printf("points matrix: %d rows of %d\n", N, D);
 
@@ -153,7 +153,7 @@ int main(void)
     expect(memcmp(opened, key, KEY) == 0, "the key dealt");
     printf("opened by seven: \"%.*s\"\n", KEY, (char *)opened);
 
-    /* Six of them cannot, three learn nothing (a sweeping vector for every position), and a changed share among eight is noticed. */
+    /* Six of them cannot, three are private (a sweeping vector for every position), and a changed share among eight is noticed. */
     memcpy(opened, untouched, KEY);
     position = N;
     expect(open_key(seven & ~1u, opened, &position) == 6 && position == 0, "six cannot open");
@@ -163,7 +163,7 @@ int main(void)
     shares[5][0] = (shares[5][0] + 1) % P;
     expect(open_key(0xff, opened, &position) == 7, "a changed share is refused");
     expect(memcmp(opened, untouched, KEY) == 0, "a refused opening writes no byte");
-    printf("six cannot open, three learn nothing, a changed share among eight is refused\n");
+    printf("six cannot open, three are private, a changed share among eight is refused\n");
 
     /* A dealer that lies: one entry of holder 5's row part is changed. */
     uint16_t *entry = &gs[5 * D + 2];

@@ -49,7 +49,8 @@ uint16_t mavdrusek_field(uint16_t p);
 
 /* ---- Dealing */
 
-/* The points matrix into `matrix`, n * d entries. Refusals 1, 2, 3, 15. */
+/* The points matrix into `matrix`, n * d entries. On it any d holders and no fewer determine the secrets, and any e and no more are private. Refusals 1,
+ * 2, 3, 15. */
 uint16_t mavdrusek_points(uint16_t p, uint16_t l, uint16_t e, uint16_t n, uint16_t *matrix, size_t matrix_len);
 
 /* Holder `holder`'s part of a dealing: g and h, d entries each. `secrets` has l * l elements, position k of secret vector b at b * l + k; `random`

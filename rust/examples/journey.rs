@@ -62,7 +62,7 @@ fn file(matrix: &[u16], gs: &[u16], hs: &[u16], said: &[Verdict], holder: u16) -
 }
 
 pub fn main() -> Result<(), Refusal> {
-    // The matrix of board keys, a points matrix, which dealing and opening have built in: any 7 holders determine the key, any 3 learn nothing.
+    // The matrix of board keys, a points matrix, which dealing and opening have built in: any 7 holders determine the key, any 3 are private.
     let mut matrix = vec![0; SETUP.entries()];
     SETUP.points(&mut matrix)?;
     println!("points matrix: {} rows of {D}", HOLDERS);
@@ -118,7 +118,7 @@ pub fn main() -> Result<(), Refusal> {
     assert!(opened == key);
     println!("opened by holders {openers:?}: \"{}\"", String::from_utf8_lossy(opened.as_bytes()));
 
-    // Six of them cannot, three learn nothing (a sweeping vector for every position), and a changed share among eight is noticed.
+    // Six of them cannot, three are private (a sweeping vector for every position), and a changed share among eight is noticed.
     let six = seven & (seven - 1);
     assert_eq!(open_key(six, &handed(&shares, six)).err(), Some(Refusal::Undetermined { position: 0 }));
     assert!(SETUP.private(&matrix, 0b111)?);
@@ -128,7 +128,7 @@ pub fn main() -> Result<(), Refusal> {
     let mut eight = handed(&shares, 0xff);
     eight[5] = (eight[5] + 1) % 257;
     assert_eq!(open_key(0xff, &eight).err(), Some(Refusal::Inconsistent));
-    println!("six cannot open, three learn nothing, a changed share among eight is refused");
+    println!("six cannot open, three are private, a changed share among eight is refused");
 
     // A dealer that lies: one entry of holder 5's row part is changed.
     let mut false_gs = gs.clone();

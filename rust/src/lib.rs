@@ -3,9 +3,9 @@
 //! A dealer gives a key of ℓ columns of ℓ field elements to n holders. A set of holders whose rows of the setup's matrix determine the secrets
 //! brings them back, and holders who follow the rules cannot be left with shares that open two ways.
 //!
-//! On a points matrix ([`Setup::points`]) any ℓ + e holders bring the secrets back and any e of them learn nothing; the library's proofs do not have
-//! that rule yet, only the answer of each call on each set. On another matrix the number of holders shows neither: [`Setup::determines`] says whether
-//! a set brings the secrets back, and a set learns nothing only where [`Setup::judge_set`] finds a sweeping vector for every position.
+//! On a points matrix ([`Setup::points`]) any ℓ + e holders and no fewer bring the secrets back, and any e and no more are private; that is proved for
+//! every prime and every size. On another matrix the number of holders shows neither: [`Setup::determines`] says whether a set brings the secrets back,
+//! and [`Setup::private`] whether it is private, that is, has a sweeping vector for every position. That a private set learns nothing is not proved yet.
 //!
 //! An opening is to be made by enough honest holders: where those among the openers determine the secrets by themselves, the others can only cause
 //! a refusal. Where they do not, a false share can open to false secrets.
@@ -355,7 +355,7 @@ impl Setup {
 /// Dealing.
 impl Setup {
     /// Writes the points matrix, n · d entries: from the values of a polynomial of degree below d at 0, .., d − 1, row i gives its value at d + i.
-    /// Any d holders then determine the secrets, and any e learn nothing (a rule that is not proved yet). Refusals 1, 2, 3, 15.
+    /// Any d holders and no fewer then determine the secrets, and any e and no more are private. Refusals 1, 2, 3, 15.
     pub fn points(&self, matrix: &mut [u16]) -> Result<(), Refusal> {
         let Setup { p, l, e, n } = *self;
         answer(unsafe { raw::mavdrusek_points(p, l, e, n, matrix.as_mut_ptr(), matrix.len()) }, 0)
