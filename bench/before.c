@@ -1,4 +1,4 @@
-/* Times dealing before and after a change, in turns; bench/before builds and runs it. */
+/* Times dealing and the calls on sets before and after a change, in turns; bench/before builds and runs it. */
 #define _GNU_SOURCE
 #include <stdint.h>
 #include <stdio.h>
@@ -10,18 +10,28 @@
 
 enum { TURN = 16, CALLS = 256, ROUNDS = 161 };
 
-/* The library before the change has the same functions under other names. */
+/* The library before the change has the same functions under other names; it judges a set without giving the row steps. */
 __typeof__(mavdrusek_deal) before_mavdrusek_deal;
 __typeof__(mavdrusek_deal_all) before_mavdrusek_deal_all;
 __typeof__(mavdrusek_deal_key) before_mavdrusek_deal_key;
+__typeof__(mavdrusek_determines) before_mavdrusek_determines;
+__typeof__(mavdrusek_private) before_mavdrusek_private;
+__typeof__(mavdrusek_open) before_mavdrusek_open;
+uint16_t before_mavdrusek_judge_set(uint16_t p, uint16_t l, uint16_t e, uint16_t n, const uint16_t *matrix, size_t matrix_len, uint32_t set,
+                                    uint16_t position, uint16_t *out, size_t out_len, uint16_t *kind);
 static __typeof__(mavdrusek_deal) *const deal[] = {before_mavdrusek_deal, mavdrusek_deal};
 static __typeof__(mavdrusek_deal_all) *const deal_all[] = {before_mavdrusek_deal_all, mavdrusek_deal_all};
 static __typeof__(mavdrusek_deal_key) *const deal_key[] = {before_mavdrusek_deal_key, mavdrusek_deal_key};
+static __typeof__(mavdrusek_determines) *const determines[] = {before_mavdrusek_determines, mavdrusek_determines};
+static __typeof__(mavdrusek_private) *const private[] = {before_mavdrusek_private, mavdrusek_private};
+static __typeof__(mavdrusek_open) *const open_set[] = {before_mavdrusek_open, mavdrusek_open};
 
 static uint16_t p, l, e, n, d;
 static uint16_t matrix[TURN][512], secrets[TURN][64], entries[TURN][256], over[TURN][256], gs[2][512], hs[2][512];
 static uint16_t (*lent)[256] = entries;
 static uint8_t keys[TURN][16];
+static uint32_t sets[TURN];
+static uint16_t members, shares[TURN][32];
 static int slower;
 
 static uint16_t one(int which, int t)
@@ -39,6 +49,32 @@ static uint16_t all(int which, int t)
 static uint16_t key(int which, int t)
 {
     return deal_key[which](keys[t], 16, entries[t], 33, gs[which], 112, hs[which], 112);
+}
+
+/* The calls on sets. What they write is looked at where the parts are: buffers in gs, and in hs what else they give. */
+static uint16_t judge(int which, int t)
+{
+    uint16_t position = (uint16_t)(t % l), steps;
+    if (which)
+        return mavdrusek_judge_set(p, l, e, n, matrix[t], (size_t)n * d, sets[t], position, gs[1], 32, hs[1], &steps);
+    return before_mavdrusek_judge_set(p, l, e, n, matrix[t], (size_t)n * d, sets[t], position, gs[0], 32, hs[0]);
+}
+
+static uint16_t is_determining(int which, int t)
+{
+    return determines[which](p, l, e, n, matrix[t], (size_t)n * d, sets[t], hs[which]);
+}
+
+static uint16_t is_private(int which, int t)
+{
+    return private[which](p, l, e, n, matrix[t], (size_t)n * d, sets[t], hs[which]);
+}
+
+/* By too few members it is refused. */
+static uint16_t opening(int which, int t)
+{
+    hs[which][1] = open_set[which](p, l, e, n, matrix[t], (size_t)n * d, sets[t], shares[t], members, gs[which], l, hs[which]);
+    return 0;
 }
 
 static double now(void)
@@ -72,7 +108,7 @@ static void line(const char *name, uint16_t (*call)(int, int))
         memset(gs, 0, sizeof gs);
         memset(hs, 0, sizeof hs);
         if (call(0, t) || call(1, t) || memcmp(gs[0], gs[1], sizeof gs[0]) || memcmp(hs[0], hs[1], sizeof hs[0])) {
-            printf("%s: refused, or the two give different parts\n", name);
+            printf("%s: refused, or the two give different parts or buffers\n", name);
             exit(1);
         }
     }
@@ -89,7 +125,7 @@ static void line(const char *name, uint16_t (*call)(int, int))
             qsort(times[which], ROUNDS, sizeof(double), rising);
         ratio = times[1][ROUNDS / 2] / times[0][ROUNDS / 2];
     }
-    printf("%-8s p %5d, l %d, e %d, n %2d %9.1f %9.1f %7.3f\n", name, p, l, e, n, times[0][ROUNDS / 2], times[1][ROUNDS / 2], ratio);
+    printf("%-13s p %5d, l %d, e %d, n %2d %9.1f %9.1f %7.3f\n", name, p, l, e, n, times[0][ROUNDS / 2], times[1][ROUNDS / 2], ratio);
     slower += ratio > 1.05;
 }
 
@@ -113,16 +149,52 @@ static void setup(uint16_t a, uint16_t b, uint16_t c, uint16_t holders)
     }
 }
 
+/* The calls on sets of so many members, with the shares that a drawn vector gives. */
+static void on_sets(uint16_t size)
+{
+    static const struct {
+        const char *name;
+        uint16_t (*call)(int, int);
+    } calls[] = {{"judge_set", judge}, {"determines", is_determining}, {"private", is_private}, {"open", opening}};
+    members = size;
+    for (int t = 0; t < TURN; t++) {
+        uint16_t vector[16];
+        draw(vector, d);
+        sets[t] = 0;
+        for (int chosen = 0; chosen < size;) {
+            uint32_t bit = (uint32_t)1 << rand() % n;
+            chosen += !(sets[t] & bit);
+            sets[t] |= bit;
+        }
+        for (int i = 0, k = 0; i < n; i++)
+            if (sets[t] >> i & 1) {
+                uint64_t sum = 0;
+                for (int c = 0; c < d; c++)
+                    sum += (uint64_t)matrix[t][i * d + c] * vector[c];
+                shares[t][k++] = (uint16_t)(sum % p);
+            }
+    }
+    for (size_t k = 0; k < sizeof calls / sizeof *calls; k++) {
+        char name[32];
+        snprintf(name, sizeof name, "%s %d", calls[k].name, size);
+        line(name, calls[k].call);
+    }
+}
+
 int main(void)
 {
     static const uint16_t measured[][4] = {{2, 4, 3, 16}, {7, 1, 1, 3}, {251, 4, 3, 16}, {257, 4, 3, 16}, {65521, 8, 8, 32}};
     static const uint16_t wide[] = {2, 4, 8, 12, 16}, many[] = {1, 2, 3, 4, 5, 8, 12, 20, 32};
-    printf("%-30s %9s %9s %7s\n", "call", "before ns", "after ns", "ratio");
+    printf("%-35s %9s %9s %7s\n", "call", "before ns", "after ns", "ratio");
     for (size_t k = 0; k < sizeof measured / sizeof *measured; k++) {
         setup(measured[k][0], measured[k][1], measured[k][2], measured[k][3]);
         line("deal", one);
         line("deal_all", all);
         line("refused", none);
+        uint16_t sizes[] = {1, e, d < n ? d : n, n};
+        for (int at = 0; at < 4; at++)
+            if (at == 0 || sizes[at] > sizes[at - 1])
+                on_sets(sizes[at]);
     }
     for (size_t k = 0; k < sizeof wide / sizeof *wide; k++) {
         setup(257, wide[k] / 2, wide[k] / 2, 16);

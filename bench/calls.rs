@@ -185,19 +185,19 @@ pub fn calls(t: &mut Table, w: &World) {
             },
         );
         let (mut row, mut other) = ([0; 32], [0; 32]);
-        let mut kind = 0;
-        // Which row or vector is written is left open, so only the kinds are compared, and ours is tested to be one of its kind.
+        let (mut kind, mut steps) = (0, 0);
+        // Which sweeping vector is written is left open, so that it is not compared, but tested to be one.
         t.line(
             &name(&format!("judge_set, {who}")),
             |k, look| {
                 let q = (k % l) as u16;
-                let r = ours::judge_set(s, w.m(k), sets[k], q, &mut row, &mut kind);
+                let r = ours::judge_set(s, w.m(k), sets[k], q, &mut row, &mut kind, &mut steps);
                 assert!(!look || reference::is_of_kind(s, w.m(k), sets[k], q, kind, &row));
-                give(look, || digest(r, &[kind]), r | kind)
+                give(look, || digest(r, &[&[kind, steps][..], if kind == 2 { &[] } else { &row }].concat()), r | kind)
             },
             |k, look| {
                 let r = reference::judge_set(s, w.m(k), sets[k], (k % l) as u16, &mut other);
-                give(look, || of(&r, &[]), r.values[0])
+                give(look, || of(&r, if r.values[0] == 2 { &[] } else { &other }), r.values[0])
             },
         );
         let shares: Vec<Vec<u16>> = (0..TURN).map(|k| w.shares(k, sets[k], k % l)).collect();

@@ -106,7 +106,7 @@ pub fn growth() {
     let judge_set = |w: &World, k: usize| {
         let sets = w.sets(k, true);
         let mut out = [0; 32];
-        one(runner(|x, _| ours::judge_set(w.s, w.m(x), sets[x], 0, &mut out, &mut 0) as u64))
+        one(runner(|x, _| ours::judge_set(w.s, w.m(x), sets[x], 0, &mut out, &mut 0, &mut 0) as u64))
     };
     let deal_all = |w: &World| {
         let (mut gs, mut hs) = (vec![0; w.s.entries()], vec![0; w.s.entries()]);

@@ -43,8 +43,8 @@ pub fn determines(s: Params, m: &[u16], set: u32, yes: &mut u16) -> u16 {
 pub fn private(s: Params, m: &[u16], set: u32, yes: &mut u16) -> u16 {
     unsafe { mavdrusek_private(s.p, s.l, s.e, s.n, m.as_ptr(), m.len(), set, yes) }
 }
-pub fn judge_set(s: Params, m: &[u16], set: u32, position: u16, out: &mut [u16], kind: &mut u16) -> u16 {
-    unsafe { mavdrusek_judge_set(s.p, s.l, s.e, s.n, m.as_ptr(), m.len(), set, position, out.as_mut_ptr(), out.len(), kind) }
+pub fn judge_set(s: Params, m: &[u16], set: u32, position: u16, out: &mut [u16], kind: &mut u16, steps: &mut u16) -> u16 {
+    unsafe { mavdrusek_judge_set(s.p, s.l, s.e, s.n, m.as_ptr(), m.len(), set, position, out.as_mut_ptr(), out.len(), kind, steps) }
 }
 #[rustfmt::skip]
 pub fn open(s: Params, m: &[u16], set: u32, shares: &[u16], secrets: &mut [u16], position: &mut u16) -> u16 {

@@ -111,7 +111,7 @@ int main(void)
     uint8_t key[KEY], opened[KEY] = {0};
     const uint8_t untouched[KEY] = {0};
     uint16_t random[D * D - KEY], array[KEY];
-    uint16_t verdicts[N], named[N], kept, first, position = 0, yes, kind, fair, checker, sender;
+    uint16_t verdicts[N], named[N], kept, first, position = 0, yes, kind, steps, fair, checker, sender;
     uint16_t column[L], combined[N], row[32];
 
     /* The matrix of board keys, a points matrix, which dealing and opening have built in: any 7 holders determine the key, any 3 are private. */
@@ -149,6 +149,17 @@ int main(void)
     for (int k = 0; k < L; k++)
         expect(column[k] == (3 * key[k] + 5 * key[2 * L + k]) % P, "the combination of the columns");
     printf("combined: 3 * column 0 + 5 * column 2 opens to %d %d %d %d\n", column[0], column[1], column[2], column[3]);
+    /* The seven's row for position 0, as it is copied onto a card: applied to the combination's shares it gives that position. */
+    expect(mavdrusek_judge_set(SETUP, matrix, N * D, seven, 0, row, 32, &kind, &steps) == 0 && kind == 1 && steps == 42, "the seven's row");
+    uint32_t applied = 0;
+    printf("the seven's row for position 0:");
+    for (int i = 0, k = 0; i < N; i++)
+        if (seven >> i & 1) {
+            printf(" %d", row[k]);
+            applied += (uint32_t)row[k++] * combined[i];
+        }
+    expect(applied % P == column[0], "position 0 by the row");
+    printf(", after %d row steps\n", steps);
     expect(open_key(seven, opened, &position) == 0, "the key opens");
     expect(memcmp(opened, key, KEY) == 0, "the key dealt");
     printf("opened by seven: \"%.*s\"\n", KEY, (char *)opened);
@@ -159,7 +170,8 @@ int main(void)
     expect(open_key(seven & ~1u, opened, &position) == 6 && position == 0, "six cannot open");
     expect(mavdrusek_private(SETUP, matrix, N * D, 7, &yes) == 0 && yes == 1, "three are private");
     for (uint16_t k = 0; k < L; k++)
-        expect(mavdrusek_judge_set(SETUP, matrix, N * D, 7, k, row, 32, &kind) == 0 && kind == 2, "three have a sweeping vector for every position");
+        expect(mavdrusek_judge_set(SETUP, matrix, N * D, 7, k, row, 32, &kind, &steps) == 0 && kind == 2 && steps == 18,
+               "three have a sweeping vector for every position");
     shares[5][0] = (shares[5][0] + 1) % P;
     expect(open_key(0xff, opened, &position) == 7, "a changed share is refused");
     expect(memcmp(opened, untouched, KEY) == 0, "a refused opening writes no byte");

@@ -101,11 +101,17 @@ uint16_t mavdrusek_determines(uint16_t p, uint16_t l, uint16_t e, uint16_t n, co
  * position 0, so that no set with it is private. A private set never determines the secrets; with l 1 every other set does. Refusals 1 to 5. */
 uint16_t mavdrusek_private(uint16_t p, uint16_t l, uint16_t e, uint16_t n, const uint16_t *matrix, size_t matrix_len, uint32_t set, uint16_t *yes);
 
-/* The judgement of a set at a position below l: *kind is 1, and `out` (32 entries) a reconstruction row, its entries by rising holder: the
- * set determines the position; or 2, and a sweeping vector of d entries: the set's shares fit every value at that position; or 0, neither. Zeros follow,
- * so that all 32 entries are written. Refusals 1 to 5. */
+/* The judgement of a set at a position below l: *kind is 1, and `out` (32 entries) the reconstruction row, its entries by rising holder: the set
+ * determines the position; or 2, and a sweeping vector of d entries: the set's shares fit every value at that position; or 0, neither. Zeros follow, so
+ * that all 32 entries are written.
+ * The row is the one with 0 at each member whose matrix row is a combination of those of lower members; there is only one. Which sweeping vector is
+ * written is left open, and only that.
+ * *steps is the number of row steps of the elimination that seeks the row, whatever the kind: Gauss-Jordan on the members' rows written as columns, by
+ * rising holder. The pivot is the topmost unused row with an entry other than 0; each subtraction of a multiple of it from another row with an entry other
+ * than 0 there is one row step, and scaling it is none. With k members they are at most min(k, d) * (d - 1), and on a points matrix just as many.
+ * Refusals 1 to 5. */
 uint16_t mavdrusek_judge_set(uint16_t p, uint16_t l, uint16_t e, uint16_t n, const uint16_t *matrix, size_t matrix_len, uint32_t set,
-                             uint16_t position, uint16_t *out, size_t out_len, uint16_t *kind);
+                             uint16_t position, uint16_t *out, size_t out_len, uint16_t *kind, uint16_t *steps);
 
 /* Opens the set's shares of one column or combination, by rising holder, into l secrets. `shares` has as many entries as there are ones among all 32
  * bits of the set, those at or above n included: such a set gets 5 with that many shares, and 3 with any other number. Refusals 1 to 7; refusal 6 writes

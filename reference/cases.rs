@@ -39,7 +39,7 @@ pub const CALLS: [Call; 28] = [
     call("outcome", &[1, 2, 3, 4, 12], 2, &[0], &[2], Bytes::None),
     call("rehearse", &[1, 2, 3, 4], 3, &[0, 1, 2], &[], Bytes::None),
     call("combine", &[1, 3, 4], 1, &[0, 1], &[], Bytes::None),
-    call("judge a set", &[1, 2, 3, 4, 5], 1, &[0], &[1], Bytes::None),
+    call("judge a set", &[1, 2, 3, 4, 5], 2, &[0], &[1], Bytes::None),
     call("determines", &[1, 2, 3, 4, 5], 1, &[0], &[], Bytes::None),
     call("private", &[1, 2, 3, 4, 5], 1, &[0], &[], Bytes::None),
     call("open", &[1, 2, 3, 4, 5, 6, 7], 1, &[0, 1], &[2], Bytes::None),
@@ -163,8 +163,8 @@ impl Case {
     /// One line: the number, the places, then every slice that may be written, a space after each number. Of a holder's file the number, the count and
     /// the byte, then its text.
     ///
-    /// Which row or vector the judgement of a set writes is left open. Its buffer is stored all the same: the proved library and the reference both
-    /// take the solution with zeros at the free unknowns, where the pivots are leftmost, and there is only one.
+    /// Which sweeping vector the judgement of a set writes is left open, and only that. Its buffer is stored all the same: the proved library and the
+    /// reference both take the solution with zeros at the free unknowns, where the pivots are leftmost, and there is only one.
     pub fn line(&self) -> String {
         if self.call == FILE {
             let mut out = [0; 256];

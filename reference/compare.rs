@@ -7,7 +7,7 @@ mod cases;
 mod draw;
 use cases::*;
 use draw::*;
-use reference::{holder_file, is_of_kind, read_file};
+use reference::{holder_file, is_of_kind, points, read_file};
 
 /// The functions of include/mavdrusek.h.
 #[path = "../rust/src/raw.rs"]
@@ -37,7 +37,7 @@ fn ours(case: &Case) -> After {
             (5, [g, v, s]) => mavdrusek_outcome(p, l, e, n, g.as_ptr(), g.len(), v.as_ptr(), v.len(), s.as_mut_ptr(), s.len(), a, b),
             (6, [m, g, h]) => mavdrusek_rehearse(p, l, e, n, m.as_ptr(), m.len(), g.as_ptr(), g.len(), h.as_ptr(), h.len(), a, b, c),
             (7, [k, s]) => mavdrusek_combine(p, k.as_ptr(), k.len(), s.as_ptr(), s.len(), a),
-            (8, [m, out]) => mavdrusek_judge_set(p, l, e, n, m.as_ptr(), m.len(), set, x[6], out.as_mut_ptr(), out.len(), a),
+            (8, [m, out]) => mavdrusek_judge_set(p, l, e, n, m.as_ptr(), m.len(), set, x[6], out.as_mut_ptr(), out.len(), a, b),
             (9, [m]) => mavdrusek_determines(p, l, e, n, m.as_ptr(), m.len(), set, a),
             (10, [m]) => mavdrusek_private(p, l, e, n, m.as_ptr(), m.len(), set, a),
             (11, [m, s, out]) => mavdrusek_open(p, l, e, n, m.as_ptr(), m.len(), set, s.as_ptr(), s.len(), out.as_mut_ptr(), out.len(), a),
@@ -63,15 +63,28 @@ fn ours(case: &Case) -> After {
     After { number, places: places[..case.of().places].to_vec(), words, bytes }
 }
 
-/// Whether both make the same of a case. Of the judgement of a set only the kind is fixed and that its buffer holds one of that kind, then zeros.
+/// Whether the row steps of a judgement of a set are at most the smaller of k and d, times d − 1, for k members, and on the points matrix just as many.
+fn within_bound(c: &Case, steps: u16) -> bool {
+    let (s, members) = (c.params(), c.set().count_ones() as usize);
+    let most = members.min(s.d()) * (s.d() - 1);
+    let mut matrix = vec![0; s.entries()];
+    let on_points = points(s, &mut matrix).number == 0 && matrix == c.words[0];
+    steps as usize == most || !on_points && (steps as usize) < most
+}
+
+/// Whether both make the same of a case. Of the judgement of a set all is fixed but which sweeping vector its buffer holds; the row or the vector is tested
+/// to be one, and the row steps to keep to their bound.
 fn agree(c: &Case) -> bool {
     let (mut left, right) = (ours(c), c.run());
-    if c.call == 8 && left.number == 0 && left.places == right.places && left.words[1].len() == 32 {
-        if !is_of_kind(c.params(), &c.words[0], c.set(), c.numbers[6], left.places[0], &left.words[1]) {
-            println!("differ: {c:?}\n  ours {left:?}, not one of its kind");
+    if c.call == 8 && (left.number, right.number) == (0, 0) && left.places == right.places {
+        let (kind, steps) = (left.places[0], left.places[1]);
+        if !is_of_kind(c.params(), &c.words[0], c.set(), c.numbers[6], kind, &left.words[1]) || !within_bound(c, steps) {
+            println!("differ: {c:?}\n  ours {left:?}, not one of its kind, or with steps that break their bound");
             return false;
         }
-        left.words[1] = right.words[1].clone();
+        if kind == 2 {
+            left.words[1] = right.words[1].clone();
+        }
     }
     if left != right {
         println!("differ: {c:?}\n  ours {left:?}\n  reference {right:?}");
@@ -131,7 +144,12 @@ fn main() {
     let others: Vec<u16> = (0..CALLS.len() as u16).filter(|&call| call != FILE && call != READ_FILE).collect();
     for k in 0..calls {
         let call = others[k as usize % others.len()];
-        let c = if (8..=11).contains(&call) && r.chance(4) { supplied(&mut r, call) } else { draw(&mut r, call) };
+        let on_a_set = (8..=11).contains(&call);
+        let c = match r.below(4) {
+            0 if on_a_set => supplied(&mut r, call),
+            1 if on_a_set => tied(&mut r, call),
+            _ => draw(&mut r, call),
+        };
         differ += !agree(&c) as u64;
     }
     for _ in 0..calls.div_ceil(5) {

@@ -26,6 +26,19 @@ impl Random {
     pub fn elements(&mut self, p: u16, n: usize) -> Vec<u16> {
         (0..n).map(|_| self.below(p as usize) as u16).collect()
     }
+    pub fn shuffle<T>(&mut self, xs: &mut [T]) {
+        for k in (1..xs.len()).rev() {
+            xs.swap(k, self.below(k + 1));
+        }
+    }
+    /// So many holders out of n.
+    pub fn set(&mut self, n: usize, size: usize) -> u32 {
+        let mut set = 0u32;
+        while (set.count_ones() as usize) < size {
+            set |= 1 << self.below(n);
+        }
+        set
+    }
     /// What a lent buffer holds before a call.
     pub fn noise(&mut self, n: usize) -> Vec<u16> {
         self.elements(u16::MAX, n)
@@ -43,6 +56,31 @@ pub const POINTS: usize = 3;
 pub const ARBITRARY: usize = 5;
 pub const SPARSE: usize = 6;
 pub const SUPPLIED: usize = 7;
+pub const TIED: usize = 8;
+
+// The sorts of a row that is a combination of others: 0, one of them, a multiple of one, the sum of two, and one with a factor other than 0 for each.
+pub const NONE: usize = 0;
+pub const COPY: usize = 1;
+pub const MULTIPLE: usize = 2;
+pub const SUM: usize = 3;
+pub const EACH: usize = 4;
+
+/// A combination of rows of d entries, of one of these sorts; of no rows it is 0.
+pub fn combination(r: &mut Random, p: u16, rows: &[u16], d: usize, sort: usize) -> Vec<u16> {
+    let mut factors = vec![0; rows.len() / d];
+    if !factors.is_empty() {
+        let (one, other) = (r.below(factors.len()), r.below(factors.len()));
+        let mut factor = || 1 + r.below(p as usize - 1) as u64;
+        match sort {
+            NONE => {}
+            COPY => factors[one] = 1,
+            MULTIPLE => factors[one] = factor(),
+            SUM => [one, other].iter().for_each(|&k| factors[k] += 1),
+            _ => factors.iter_mut().for_each(|x| *x = factor()),
+        }
+    }
+    (0..d).map(|c| (rows.chunks(d).zip(&factors).map(|(row, x)| row[c] as u64 * x % p as u64).sum::<u64>() % p as u64) as u16).collect()
+}
 
 /// What a case is drawn from.
 pub struct Draw<'a> {
@@ -85,6 +123,15 @@ impl<'a> Draw<'a> {
         let p = PRIMES[r.below(5)];
         let s = Params { p, l: 1 + r.below(4) as u16, e: 1 + r.below(4) as u16, n: 1 + r.below(8) as u16 };
         Draw::with(r, s, SUPPLIED)
+    }
+
+    /// A matrix with many rows that are combinations of lower ones, now and then of the largest sizes.
+    fn tied(r: &'a mut Random) -> Self {
+        let p = PRIMES[r.below(5)];
+        let large = r.chance(8);
+        let pick = |r: &mut Random, small: usize, most: usize| if large { most } else { 1 + r.below(small) } as u16;
+        let (l, e, n) = (pick(r, 4, 8), pick(r, 4, 8), pick(r, 12, 32));
+        Draw::with(r, Params { p, l, e, n }, TIED)
     }
 
     pub fn with(r: &'a mut Random, s: Params, kind: usize) -> Self {
@@ -130,6 +177,19 @@ impl<'a> Draw<'a> {
                     }
                 }
             }
+            TIED => {
+                // entries of 0 in half of the matrices, so that pivots stand in another order than the columns
+                if r.chance(2) {
+                    m.iter_mut().for_each(|x| *x = if r.chance(2) { *x } else { 0 });
+                }
+                for i in 0..n {
+                    let sort = r.below(10);
+                    if sort <= EACH {
+                        let row = combination(r, s.p, &m[..i * d], d, sort);
+                        m[i * d..(i + 1) * d].copy_from_slice(&row);
+                    }
+                }
+            }
             SPARSE => m.iter_mut().for_each(|x| *x = if r.chance(3) { *x } else { 0 }),
             _ => {}
         }
@@ -145,11 +205,7 @@ impl<'a> Draw<'a> {
             1 | 2 => all,
             3 | 4 => {
                 let size = (self.s.d() + self.r.below(3)).saturating_sub(1).min(n);
-                let mut set = 0u32;
-                while (set.count_ones() as usize) < size {
-                    set |= 1 << self.r.below(n);
-                }
-                set
+                self.r.set(n, size)
             }
             _ => self.r.next() as u32 & all,
         }
@@ -520,5 +576,11 @@ pub fn draw(r: &mut Random, call: u16) -> Case {
 /// A case of a call on a set, on a supplier's matrix: unit rows, zero rows, repeated rows and any.
 pub fn supplied(r: &mut Random, call: u16) -> Case {
     let c = Draw::supplied(r).case(call);
+    damaged(r, c)
+}
+
+/// A case of a call on a set, on a matrix with many rows that are combinations of lower ones.
+pub fn tied(r: &mut Random, call: u16) -> Case {
+    let c = Draw::tied(r).case(call);
     damaged(r, c)
 }

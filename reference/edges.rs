@@ -255,6 +255,99 @@ pub fn supplied_matrices(r: &mut Random) -> Vec<Case> {
     cases
 }
 
+/// d rows of which none is a combination of the others: a triangle with its rows and its columns in any order.
+fn independent(r: &mut Random, p: u16, d: usize) -> Vec<u16> {
+    let mut at: Vec<usize> = (0..d).collect();
+    r.shuffle(&mut at);
+    let mut rows: Vec<Vec<u16>> = (0..d)
+        .map(|i| {
+            let mut row = vec![0; d];
+            at[..i].iter().for_each(|&c| row[c] = r.below(p as usize) as u16);
+            row[at[i]] = 1 + r.below(p as usize - 1) as u16;
+            row
+        })
+        .collect();
+    r.shuffle(&mut rows);
+    rows.concat()
+}
+
+/// Sets with a member whose row is a combination of those of lower members: of every sort, first, in the middle and last, in sets with fewer members than
+/// columns, with as many, and with more.
+fn one_tied(r: &mut Random, p: u16, cases: &mut Vec<Case>) {
+    for size in [3, 4, 5] {
+        let (middle, last) = (size / 2, size - 1);
+        let tied = [(0, NONE), (middle, COPY), (middle, MULTIPLE), (middle, EACH), (last, NONE), (last, COPY), (last, SUM), (last, EACH)];
+        for (k, (place, sort)) in tied.into_iter().enumerate() {
+            let (l, e) = [(2, 2), (3, 1), (1, 3)][(k + size) % 3];
+            let s = params(p, l, e, 7);
+            let mut rows = independent(r, p, 4);
+            rows.truncate(4 * (size - 1));
+            let row = combination(r, p, &rows[..4 * place], 4, sort);
+            rows.splice(4 * place..4 * place, row);
+            // the others among the seven have any rows
+            let set = r.set(7, size);
+            let mut m = r.elements(p, s.entries());
+            let members = (0..7).filter(|i| set >> i & 1 == 1);
+            members.zip(rows.chunks(4)).for_each(|(i, row)| m[4 * i..4 * i + 4].copy_from_slice(row));
+            cases.extend(on_set(r, &m, s, set, k as u16 % l));
+        }
+    }
+}
+
+/// The largest sizes, with 16 independent rows and with five, and combinations of lower rows between them.
+fn many_tied(r: &mut Random, p: u16, cases: &mut Vec<Case>) {
+    let s = params(p, 8, 8, 32);
+    for every in [2, 7] {
+        let rows = independent(r, p, 16);
+        let mut next = rows.chunks(16);
+        let mut m = vec![];
+        for i in 0..32 {
+            let row = if i % every == 1 { next.next().unwrap().to_vec() } else { combination(r, p, &m, 16, i % 5) };
+            m.extend(row);
+        }
+        for (k, set) in [u32::MAX, 0xFFFF, 0xFFFF0000, 0xAAAAAAAA, 0x55555555].into_iter().enumerate() {
+            cases.extend(on_set(r, &m, s, set, [0, 7, 3][k % 3]));
+        }
+    }
+}
+
+/// Sets of sizes about e, d and n on points matrices, where the row steps are as many as they can be.
+fn most_steps(r: &mut Random, cases: &mut Vec<Case>) {
+    for (p, l, e, n) in [(7, 1, 1, 5), (7, 2, 2, 3), (251, 2, 2, 8), (257, 4, 3, 16), (65521, 3, 1, 8), (251, 8, 8, 32)] {
+        let s = params(p, l, e, n);
+        let m = matrix(r, s, POINTS);
+        let mut sizes = distinct(vec![0, 1, e, l + e - 1, l + e, l + e + 1, n - 1, n]);
+        sizes.retain(|&size| size <= n);
+        for size in sizes {
+            let set = r.set(n as usize, size as usize);
+            cases.extend(on_set(r, &m, s, set, size % l));
+        }
+    }
+}
+
+/// The judgement of sets: which row, and how many row steps.
+pub fn rows_and_steps(r: &mut Random) -> Vec<Case> {
+    let mut cases = vec![];
+    for p in PRIMES {
+        one_tied(r, p, &mut cases);
+        // behind (0, 0, 1) and (1, 1, 0) the steps show which unused row was taken for the topmost
+        let m = [0, 0, 1, 1, 1, 0, 0, 1, 1, p - 1, 0, 1];
+        for set in [0b0011, 0b0111, 0b1011, 0b1101, 0b1110, 0b1111] {
+            cases.extend(on_set(r, &m, params(p, 2, 1, 4), set, (set / 4 % 2) as u16));
+        }
+        // 32 members, two columns
+        let s = params(p, 1, 1, 32);
+        let m = matrix(r, s, TIED);
+        cases.extend(on_set(r, &m, s, u32::MAX, 0));
+    }
+    for p in [2, 257, 65521] {
+        many_tied(r, p, &mut cases);
+    }
+    most_steps(r, &mut cases);
+    cases.retain(|c| c.call == 8);
+    cases
+}
+
 /// The points matrix at and past d + n = p, and over every field.
 fn points_matrices(r: &mut Random, cases: &mut Vec<Case>) {
     for (l, e) in [(1, 1), (1, 2), (2, 1), (2, 2), (3, 2), (2, 4), (5, 1)] {
@@ -554,9 +647,7 @@ fn files(r: &mut Random, cases: &mut Vec<Case>) {
     }
     for _ in 0..20 {
         let mut rest: Vec<&[u16]> = spans[2..].iter().map(|&(from, to)| &whole[from..to]).collect();
-        for k in (1..rest.len()).rev() {
-            rest.swap(k, r.below(k + 1));
-        }
+        r.shuffle(&mut rest);
         push([bytes(&whole[..18]), bytes(&rest.concat())].concat());
     }
     other_records().iter().for_each(|words| push(bytes(words)));

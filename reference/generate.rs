@@ -44,6 +44,12 @@ fn stored() -> (Vec<u8>, String) {
     for round in 0..60 {
         all.push(supplied(&mut r, 8 + round % 3));
     }
+    // the same for the rows of sets and their steps
+    let mut r = Random(20261118);
+    all.extend(edges::rows_and_steps(&mut r));
+    for _ in 0..60 {
+        all.push(tied(&mut r, 8));
+    }
     let (mut input, mut output) = (vec![], String::new());
     let mut counts = vec![BTreeMap::new(); CALLS.len()];
     for c in &all {

@@ -1,4 +1,4 @@
-//! Document 01, with the requests of document 02 that have landed (A1, A2, A3), in plain safe Rust: every call and the holder's file, written from the
+//! Document 01, with the requests of document 02 that have landed (A1 to A6), in plain safe Rust: every call and the holder's file, written from the
 //! documents in the most direct way. It shares nothing with the proved library; the two are compared on many inputs.
 
 /// A refusal's number (0: none) and the values given beside it.
@@ -300,13 +300,16 @@ fn members(set: u32) -> Vec<usize> {
     (0..32).filter(|i| set >> i & 1 == 1).collect()
 }
 
-/// Some solution of the rows (coefficients, then the right side), by Gaussian elimination with row exchanges.
-fn solve(p: u16, mut rows: Vec<Vec<u16>>, unknowns: usize) -> Option<Vec<u16>> {
-    let mut pivots = vec![];
-    let mut top = 0;
+/// Solves the rows (coefficients, then the right side) by Gauss-Jordan elimination in the order of A6: columns from left to right, the pivot being the
+/// topmost unused row with an entry other than 0, scaled to 1; no row moves. Gives the solution with 0 at each unknown without a pivot, if there is one,
+/// and the number of row steps, that is, of multiples of a pivot row subtracted from another row.
+fn solve(p: u16, mut rows: Vec<Vec<u16>>, unknowns: usize) -> (Option<Vec<u16>>, u16) {
+    // The column of each row's pivot, where it is used.
+    let mut pivots = vec![None; rows.len()];
+    let mut steps = 0;
     for c in 0..unknowns {
-        let Some(found) = (top..rows.len()).find(|&r| rows[r][c] != 0) else { continue };
-        rows.swap(top, found);
+        let Some(top) = (0..rows.len()).find(|&r| pivots[r].is_none() && rows[r][c] != 0) else { continue };
+        pivots[top] = Some(c);
         let k = inverse(p, rows[top][c]);
         for x in rows[top].iter_mut() {
             *x = times(p, *x, k);
@@ -318,23 +321,24 @@ fn solve(p: u16, mut rows: Vec<Vec<u16>>, unknowns: usize) -> Option<Vec<u16>> {
                     let t = times(p, factor, rows[top][x]);
                     rows[r][x] = minus(p, rows[r][x], t);
                 }
+                steps += 1;
             }
         }
-        pivots.push(c);
-        top += 1;
     }
-    if rows[top..].iter().any(|r| r[unknowns] != 0) {
-        return None;
+    let mut solution = vec![0; unknowns];
+    for (row, pivot) in rows.iter().zip(pivots) {
+        match pivot {
+            Some(c) => solution[c] = row[unknowns],
+            None if row[unknowns] != 0 => return (None, steps),
+            None => {}
+        }
     }
-    let mut x = vec![0; unknowns];
-    for (r, &c) in pivots.iter().enumerate() {
-        x[c] = rows[r][unknowns];
-    }
-    Some(x)
+    (Some(solution), steps)
 }
 
-/// A reconstruction row for position q.
-fn reconstruction_row(s: &Params, m: &[u16], set: u32, q: usize) -> Option<Vec<u16>> {
+/// The reconstruction row for position q, if there is one, and the row steps of its elimination: the members' rows as columns, by rising holder, with the
+/// unit vector of q beside them. It has 0 at each member whose matrix row is a combination of those of lower members: that column has no pivot.
+fn reconstruction_row(s: &Params, m: &[u16], set: u32, q: usize) -> (Option<Vec<u16>>, u16) {
     let ms = members(set);
     let rows = (0..s.d())
         .map(|c| ms.iter().map(|&i| row(s, m, i)[c]).chain([(c == q) as u16]).collect())
@@ -352,7 +356,7 @@ fn sweeping_vector(s: &Params, m: &[u16], set: u32, q: usize) -> Option<Vec<u16>
             r[l..].iter().copied().chain([minus(s.p, 0, r[q])]).collect()
         })
         .collect();
-    let tail = solve(s.p, rows, e)?;
+    let tail = solve(s.p, rows, e).0?;
     Some((0..l).map(|c| (c == q) as u16).chain(tail).collect())
 }
 
@@ -364,7 +368,7 @@ fn set_faults(s: &Params, m: &[u16], set: u32) -> Faults {
     f
 }
 
-/// 1 row, 2 vector, 0 neither; the buffer holds one of the kind, then zeros.
+/// 1 row, 2 vector, 0 neither, and the row steps of the row's elimination, whatever it finds; the buffer holds the row or a vector, then zeros.
 pub fn judge_set(s: Params, m: &[u16], set: u32, position: u16, out: &mut [u16]) -> Answer {
     let mut f = set_faults(&s, m, set);
     f.length(out, 32);
@@ -373,7 +377,8 @@ pub fn judge_set(s: Params, m: &[u16], set: u32, position: u16, out: &mut [u16])
         return refused(k);
     }
     let q = position as usize;
-    let (kind, found) = match reconstruction_row(&s, m, set, q) {
+    let (found, steps) = reconstruction_row(&s, m, set, q);
+    let (kind, found) = match found {
         Some(r) => (1, r),
         None => match sweeping_vector(&s, m, set, q) {
             Some(w) => (2, w),
@@ -382,15 +387,40 @@ pub fn judge_set(s: Params, m: &[u16], set: u32, position: u16, out: &mut [u16])
     };
     out.fill(0);
     out[..found.len()].copy_from_slice(&found);
-    given(&[kind])
+    given(&[kind, steps])
 }
 
-/// Whether what judge_set wrote is one of its kind, followed by zeros.
+/// For each row whether it is a combination of those before it: nothing is left of it once multiples of what was left of them are subtracted.
+fn combinations(p: u16, rows: &[&[u16]]) -> Vec<bool> {
+    let mut kept: Vec<Vec<u16>> = vec![];
+    let mut found = vec![];
+    for row in rows {
+        let mut left = row.to_vec();
+        for x in &kept {
+            let at = x.iter().position(|&a| a != 0).unwrap();
+            let factor = times(p, left[at], inverse(p, x[at]));
+            for (a, &b) in left.iter_mut().zip(x) {
+                *a = minus(p, *a, times(p, factor, b));
+            }
+        }
+        found.push(left.iter().all(|&a| a == 0));
+        if found.last() == Some(&false) {
+            kept.push(left);
+        }
+    }
+    found
+}
+
+/// Whether what judge_set wrote is the row or some vector, as the kind says, followed by zeros.
 pub fn is_of_kind(s: Params, m: &[u16], set: u32, position: u16, kind: u16, out: &[u16]) -> bool {
     let (ms, d, q) = (members(set), s.d(), position as usize);
     let width = [0, ms.len(), d][kind as usize];
     let right = match kind {
-        1 => (0..d).all(|c| dot(s.p, out.iter().copied(), ms.iter().map(|&i| row(&s, m, i)[c])) == (c == q) as u16),
+        1 => {
+            let rows: Vec<&[u16]> = ms.iter().map(|&i| row(&s, m, i)).collect();
+            (0..d).all(|c| dot(s.p, out.iter().copied(), rows.iter().map(|r| r[c])) == (c == q) as u16)
+                && combinations(s.p, &rows).iter().zip(out).all(|(&tied, &x)| !tied || x == 0)
+        }
         2 => {
             ms.iter().all(|&i| due_from(&s, m, &out[..d], i) == 0)
                 && (0..s.l as usize).all(|c| out[c] == (c == q) as u16)
@@ -401,7 +431,7 @@ pub fn is_of_kind(s: Params, m: &[u16], set: u32, position: u16, kind: u16, out:
 }
 
 fn no_row(s: &Params, m: &[u16], set: u32) -> Option<u16> {
-    (0..s.l).find(|&q| reconstruction_row(s, m, set, q as usize).is_none())
+    (0..s.l).find(|&q| reconstruction_row(s, m, set, q as usize).0.is_none())
 }
 
 pub fn determines(s: Params, m: &[u16], set: u32) -> Answer {
@@ -430,7 +460,7 @@ pub fn open(s: Params, m: &[u16], set: u32, shares: &[u16], secrets: &mut [u16])
         return Answer { number: 6, values: vec![q] };
     }
     let rows = members(set).iter().zip(shares).map(|(&i, &x)| row(&s, m, i).iter().copied().chain([x]).collect()).collect();
-    match solve(s.p, rows, s.d()) {
+    match solve(s.p, rows, s.d()).0 {
         None => refused(7),
         Some(v) => {
             secrets.copy_from_slice(&v[..s.l as usize]);

@@ -114,6 +114,11 @@ pub fn main() -> Result<(), Refusal> {
         assert_eq!(column[k], (3 * dealt[k] + 5 * dealt[8 + k]) % 257);
     }
     println!("combined: 3 * column 0 + 5 * column 2 opens to {column:?}");
+    // The seven's row for position 0, as it is copied onto a card: applied to the combination's shares it gives that position.
+    let mut row = [0; SET_ENTRIES];
+    assert_eq!(SETUP.judge_set(&matrix, seven, 0, &mut row)?, SetJudgement { kind: SetKind::Row, steps: 42 });
+    assert_eq!(combine(257, &row[..7], &combined)?, column[0]);
+    println!("the seven's row for position 0: {:?}, after 42 row steps", &row[..7]);
     let opened = open_key(seven, &handed(&shares, seven))?;
     assert!(opened == key);
     println!("opened by holders {openers:?}: \"{}\"", String::from_utf8_lossy(opened.as_bytes()));
@@ -123,7 +128,8 @@ pub fn main() -> Result<(), Refusal> {
     assert_eq!(open_key(six, &handed(&shares, six)).err(), Some(Refusal::Undetermined { position: 0 }));
     assert!(SETUP.private(&matrix, 0b111)?);
     for position in 0..4 {
-        assert_eq!(SETUP.judge_set(&matrix, 0b111, position, &mut [0; SET_ENTRIES])?, SetKind::Vector);
+        let judgement = SETUP.judge_set(&matrix, 0b111, position, &mut [0; SET_ENTRIES])?;
+        assert_eq!(judgement, SetJudgement { kind: SetKind::Vector, steps: 18 });
     }
     let mut eight = handed(&shares, 0xff);
     eight[5] = (eight[5] + 1) % 257;

@@ -249,12 +249,22 @@ pub enum Rehearsal {
 /// What a set has at a position.
 #[derive(Clone, Copy, Debug, PartialEq, Eq, Hash)]
 pub enum SetKind {
-    /// A reconstruction row: the set determines the position.
+    /// The reconstruction row: the set determines the position.
     Row,
     /// A sweeping vector: the set's shares fit every value at the position.
     Vector,
     /// Neither: the position is not determined, but not free of what the set holds either.
     Neither,
+}
+
+/// The judgement of a set at a position; the row or the vector stands beside it in a slice.
+#[derive(Clone, Copy, Debug, PartialEq, Eq, Hash)]
+pub struct SetJudgement {
+    /// What the set has.
+    pub kind: SetKind,
+    /// The row steps of the elimination that seeks the row, whatever the kind: with k members at most the smaller of k and d, times d − 1, and on a points
+    /// matrix just as many.
+    pub steps: u16,
 }
 
 /// The numbers of a DL record; g and h stand beside it in slices.
@@ -519,20 +529,53 @@ impl Setup {
         Ok(yes == 1)
     }
 
-    /// The judgement of a set at a position below ℓ. `out`, [`SET_ENTRIES`] entries, receives a reconstruction row by rising holder or a sweeping
+    /// The judgement of a set at a position below ℓ. `out`, [`SET_ENTRIES`] entries, receives the reconstruction row by rising holder or a sweeping
     /// vector of d entries, then zeros; for neither, zeros. Refusals 1 to 5.
-    pub fn judge_set(&self, matrix: &[u16], set: u32, position: u16, out: &mut [u16]) -> Result<SetKind, Refusal> {
+    ///
+    /// The row is the one with 0 at each member whose matrix row is a combination of those of lower members; there is only one. Which sweeping vector is
+    /// written is left open, and only that.
+    ///
+    /// The row comes by Gauss-Jordan elimination on the members' rows written as columns, by rising holder. The pivot is the topmost unused row with an
+    /// entry other than 0; each subtraction of a multiple of it from another row with an entry other than 0 there is one of the
+    /// [steps](SetJudgement::steps), and scaling it is none.
+    ///
+    /// ```
+    /// use mavdrusek::{Refusal, SetJudgement, SetKind, Setup, SET_ENTRIES};
+    ///
+    /// // Holder 2's row is a combination of the other two, so that it has 0.
+    /// let (setup, matrix) = (Setup { p: 7, l: 1, e: 1, n: 3 }, [6, 2, 5, 3, 4, 4]);
+    /// let mut row = [0; SET_ENTRIES];
+    /// let judgement = setup.judge_set(&matrix, 0b111, 0, &mut row)?;
+    /// assert_eq!(judgement, SetJudgement { kind: SetKind::Row, steps: 2 });
+    /// assert_eq!(row[..3], [3, 5, 0]);
+    /// # Ok::<(), Refusal>(())
+    /// ```
+    pub fn judge_set(&self, matrix: &[u16], set: u32, position: u16, out: &mut [u16]) -> Result<SetJudgement, Refusal> {
         let Setup { p, l, e, n } = *self;
-        let mut kind = 0;
+        let (mut kind, mut steps) = (0, 0);
         let number = unsafe {
-            raw::mavdrusek_judge_set(p, l, e, n, matrix.as_ptr(), matrix.len(), set, position, out.as_mut_ptr(), out.len(), &mut kind)
+            raw::mavdrusek_judge_set(
+                p,
+                l,
+                e,
+                n,
+                matrix.as_ptr(),
+                matrix.len(),
+                set,
+                position,
+                out.as_mut_ptr(),
+                out.len(),
+                &mut kind,
+                &mut steps,
+            )
         };
         answer(number, 0)?;
-        Ok(match kind {
+        let kind = match kind {
             1 => SetKind::Row,
             2 => SetKind::Vector,
             _ => SetKind::Neither,
-        })
+        };
+        Ok(SetJudgement { kind, steps })
     }
 
     /// Opens the set's shares of one column or combination, by rising holder, into ℓ secrets. As many shares are needed as there are ones among all 32

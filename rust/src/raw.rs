@@ -113,6 +113,7 @@ unsafe extern "C" {
         out: *mut u16,
         out_len: usize,
         kind: *mut u16,
+        steps: *mut u16,
     ) -> u16;
     pub fn mavdrusek_open(
         p: u16,

@@ -149,6 +149,8 @@ fn elements() {
     assert_eq!(SETUP.outcome(&[2, 7], &[Verdict::Accept; 3], &mut [9]), Err(Refusal::Element));
     assert_eq!(SETUP.rehearse(&m, &m, &high), Err(Refusal::Element));
     assert_eq!(SETUP.determines(&high, 0b111), Err(Refusal::Element));
+    let mut out = [9; 32];
+    assert_eq!((SETUP.judge_set(&high, 0b011, 0, &mut out), out), (Err(Refusal::Element), [9; 32]));
     assert_eq!(SETUP.open(&m, 0b101, &[0, 7], &mut [9]), Err(Refusal::Element));
 }
 
@@ -161,6 +163,7 @@ fn ranges() {
     assert_eq!(SETUP.private(&m, 1 << 31), Err(Refusal::Range));
     let mut out = [9; 32];
     assert_eq!(SETUP.judge_set(&m, 0b101, 1, &mut out), Err(Refusal::Range));
+    assert_eq!(SETUP.judge_set(&m, 0b1101, 0, &mut out), Err(Refusal::Range));
     assert_eq!(out, [9; 32]);
     assert_eq!(SETUP.open(&m, 0b1001, &[0, 4], &mut [9]), Err(Refusal::Range));
     let share = ShareRecord { dealing: 0, holder: 0, column: 1, value: 0 };

@@ -1,6 +1,6 @@
 //! The worked example of document 01: p 7, ℓ 1, e 1, n 3, points rows (6,2), (5,3), (4,4), F rows (3,1), (5,2).
 
-use mavdrusek::{combine, Judgement, Outcome, Refusal, Rehearsal, SetKind, Setup, Verdict, PRIMES};
+use mavdrusek::{combine, Judgement, Outcome, Refusal, Rehearsal, SetJudgement, SetKind, Setup, Verdict, PRIMES};
 
 const SETUP: Setup = Setup { p: 7, l: 1, e: 1, n: 3 };
 const MATRIX: [u16; 6] = [6, 2, 5, 3, 4, 4];
@@ -57,6 +57,14 @@ fn rehearsal_names_the_first_pair() {
     assert_eq!(SETUP.rehearse(&MATRIX, &GS, &hs), Ok(Rehearsal::Disagree { checker: 1, sender: 0 }));
 }
 
+/// The judgement of a set at a position, and the first entries of its buffer; those behind them are 0.
+fn judged(setup: Setup, matrix: &[u16], set: u32, position: u16, entries: usize) -> (SetKind, u16, Vec<u16>) {
+    let mut out = [9; 32];
+    let SetJudgement { kind, steps } = setup.judge_set(matrix, set, position, &mut out).unwrap();
+    assert!(out[entries..].iter().all(|&x| x == 0));
+    (kind, steps, out[..entries].to_vec())
+}
+
 fn open(set: u32, shares: &[u16]) -> Result<u16, Refusal> {
     let mut secret = [9];
     let answer = SETUP.open(&MATRIX, set, shares, &mut secret);
@@ -81,7 +89,7 @@ fn unit_row() {
     let setup = Setup { p: 7, l: 1, e: 1, n: 1 };
     let mut secret = [9];
     assert_eq!(setup.private(&[1, 0], 0b1), Ok(false));
-    assert_eq!(setup.judge_set(&[1, 0], 0b1, 0, &mut [9; 32]), Ok(SetKind::Row));
+    assert_eq!(judged(setup, &[1, 0], 0b1, 0, 1), (SetKind::Row, 0, vec![1]));
     assert_eq!((setup.open(&[1, 0], 0b1, &[5], &mut secret), secret), (Ok(()), [5]));
 }
 
@@ -92,8 +100,9 @@ fn supplied_matrix() {
     let matrix = [1, 0, 0, 0, 0, 0, 0, 12, 34, 56, 78, 90, 123, 200];
     let private = [0b00, 0b01, 0b10, 0b11].map(|set| setup.private(&matrix, set));
     assert_eq!(private, [Ok(true), Ok(false), Ok(true), Ok(false)]);
-    let kinds = [0, 1, 2, 3].map(|position| setup.judge_set(&matrix, 0b01, position, &mut [9; 32]).unwrap());
-    assert_eq!(kinds, [SetKind::Row, SetKind::Vector, SetKind::Vector, SetKind::Vector]);
+    let judged = [0, 1, 2, 3].map(|position| setup.judge_set(&matrix, 0b01, position, &mut [9; 32]).unwrap());
+    assert_eq!(judged.map(|x| x.kind), [SetKind::Row, SetKind::Vector, SetKind::Vector, SetKind::Vector]);
+    assert_eq!(judged.map(|x| x.steps), [0; 4]);
 }
 
 /// A false share of holder 2: beside holder 1 alone it opens to a false secret, beside two honest openers it is refused.
@@ -129,16 +138,36 @@ fn no_columns() {
 
 #[test]
 fn sets() {
-    let mut out = [9; 32];
-    assert_eq!(SETUP.judge_set(&MATRIX, 0b101, 0, &mut out), Ok(SetKind::Row));
-    assert_eq!((&out[..2], out[2..].iter().max()), (&[2, 6][..], Some(&0)));
-    let mut out = [9; 32];
-    assert_eq!(SETUP.judge_set(&MATRIX, 0b001, 0, &mut out), Ok(SetKind::Vector));
-    assert_eq!((&out[..2], out[2..].iter().max()), (&[1, 4][..], Some(&0)));
+    assert_eq!(judged(SETUP, &MATRIX, 0b101, 0, 2), (SetKind::Row, 2, vec![2, 6]));
+    assert_eq!(judged(SETUP, &MATRIX, 0b001, 0, 2), (SetKind::Vector, 1, vec![1, 4]));
     assert_eq!(SETUP.determines(&MATRIX, 0b101), Ok(true));
     assert_eq!(SETUP.determines(&MATRIX, 0b001), Ok(false));
     assert_eq!(SETUP.private(&MATRIX, 0b001), Ok(true));
     assert_eq!(SETUP.private(&MATRIX, 0b101), Ok(false));
+}
+
+/// The row of each set of two or more. The third row is a combination of the first two, so that holder 2 has 0 beside them. On a points matrix the steps are
+/// the smaller of k and d, times d − 1.
+#[test]
+fn rows() {
+    assert_eq!(judged(SETUP, &MATRIX, 0b111, 0, 3), (SetKind::Row, 2, vec![3, 5, 0]));
+    assert_eq!(judged(SETUP, &MATRIX, 0b011, 0, 2), (SetKind::Row, 2, vec![3, 5]));
+    assert_eq!(judged(SETUP, &MATRIX, 0b110, 0, 2), (SetKind::Row, 2, vec![4, 4]));
+    for (set, steps) in [(0b000, 0), (0b001, 1), (0b010, 1), (0b100, 1)] {
+        let judgement = SETUP.judge_set(&MATRIX, set, 0, &mut [9; 32]);
+        assert_eq!(judgement, Ok(SetJudgement { kind: SetKind::Vector, steps }));
+    }
+}
+
+/// Holders whose row is a combination of lower members' rows have 0 in the set's row: a zero row, a repeated one, a multiple and a sum. Beside (1, 1, 1)
+/// alone, the sum (2, 1, 1) is none. Each of the two pivots takes 2 steps.
+#[test]
+fn tied_rows() {
+    let setup = Setup { p: 7, l: 2, e: 1, n: 6 };
+    let matrix = [0, 0, 0, 1, 1, 1, 1, 1, 1, 1, 0, 0, 3, 3, 3, 2, 1, 1];
+    assert_eq!(judged(setup, &matrix, 0b111111, 0, 6), (SetKind::Row, 4, vec![0, 0, 0, 1, 0, 0]));
+    assert_eq!(judged(setup, &matrix, 0b110110, 0, 4), (SetKind::Row, 4, vec![6, 0, 0, 1]));
+    assert_eq!(judged(setup, &matrix, 0b111111, 1, 3), (SetKind::Vector, 4, vec![0, 1, 6]));
 }
 
 #[test]
@@ -146,9 +175,7 @@ fn neither() {
     let setup = Setup { p: 7, l: 2, e: 1, n: 1 };
     assert_eq!((setup.private(&[1, 1, 0], 0b1), setup.determines(&[1, 1, 0], 0b1)), (Ok(false), Ok(false)));
     for position in 0..2 {
-        let mut out = [9; 32];
-        assert_eq!(setup.judge_set(&[1, 1, 0], 0b1, position, &mut out), Ok(SetKind::Neither));
-        assert_eq!(out, [0; 32]);
+        assert_eq!(judged(setup, &[1, 1, 0], 0b1, position, 0), (SetKind::Neither, 1, vec![]));
     }
 }
 

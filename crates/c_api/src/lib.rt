@@ -304,7 +304,7 @@ pub extern "C" fn mavdrusek_private(
     }
 }
 
-// The judgement of a set at a position: kind 1 for a row, 2 for a vector, 0 for neither; one of the kind into 32 lent entries.
+// The judgement of a set at a position: kind 1 for a row, 2 for a vector, 0 for neither, and the row steps; the row or a vector into 32 lent entries.
 #[no_mangle]
 pub extern "C" fn mavdrusek_judge_set(
     p: u16,
@@ -316,22 +316,27 @@ pub extern "C" fn mavdrusek_judge_set(
     position: u16,
     out: &mut [u16],
     kind: &mut u16,
+    steps: &mut u16,
 ) -> u16
     ensures answer { λ r. ⌜ r ≡ judgeSetCall (setup p l e n (now (matrix .entry))) set position (now (out .entry)) .number ⌝ }
     ensures kind { λ r. ⌜ now (kind .exit) ≡ place 0 (judgeSetCall (setup p l e n (now (matrix .entry))) set position (now (out .entry))) (now (kind .entry)) ⌝ }
+    ensures steps { λ r. ⌜ now (steps .exit) ≡ place 1 (judgeSetCall (setup p l e n (now (matrix .entry))) set position (now (out .entry))) (now (steps .entry)) ⌝ }
     ensures buffer { λ r. ⌜ SetBuffer (setup p l e n (now (matrix .entry))) set position (now (out .entry)) (judgeSetCall (setup p l e n (now (matrix .entry))) set position (now (out .entry))) (now (out .exit)) ⌝ }
 {
     match set_questions::judge_set(Params { p, l, e, n }, matrix, set, position, out) {
-        SetJudged::Row => {
+        SetJudged::Row(k) => {
             *kind = 1;
+            *steps = k;
             0
         }
-        SetJudged::Vector => {
+        SetJudged::Vector(k) => {
             *kind = 2;
+            *steps = k;
             0
         }
-        SetJudged::Neither => {
+        SetJudged::Neither(k) => {
             *kind = 0;
+            *steps = k;
             0
         }
         SetJudged::Refused(k) => k,

@@ -174,8 +174,9 @@ fn judge_set(
     out: &mut [u16],
 ) {
     let mut x: u16 = 7777;
-    let number = c_api::mavdrusek_judge_set(p, l, e, n, matrix, set, position, out, &mut x);
-    one(number, x);
+    let mut y: u16 = 7777;
+    let number = c_api::mavdrusek_judge_set(p, l, e, n, matrix, set, position, out, &mut x, &mut y);
+    two(number, x, y);
     print_words(out);
 }
 

@@ -2,7 +2,7 @@
 -- row, which it reads, is another.
 use mathlib.Core.Path.{_≡_, refl, sym, ap, ap₂, _∙_, subst}
 use mathlib.Core.Logic.{_⊎_, inl, inr, _≢_, ⊎-elim}
-use mathlib.Core.Bool.{Bool, true, false}
+use mathlib.Core.Bool.{Bool, true, false, not, _&&_}
 use mathlib.Core.List.{List}
 use Prim.Native.Nat.{ℕ, zero, suc, _+_, _-_, _*_, _%_, _≤_, _<_}
 use native.Mathlib.Numerals.{add-one}
@@ -14,7 +14,9 @@ use lib.Seq.{getD-set-same, getD-set-other}
 use borrow.Author.Tests.{eqb-true, eq-eqb, ne-eqb, lt-ltb, le-ltb, ltb-true}
 use Rattle.base.specs.Choice.{pick}
 use Rattle.base.specs.Matrix.{entry, Below}
+use Rattle.base.specs.Sum.{bit}
 use Rattle.base.proofs.Choice.{either}
+use Rattle.base.proofs.Sum.{sum-step, sum-ext}
 use Rattle.base.proofs.Search.{first-ext}
 use Rattle.base.proofs.Fill.{length-laid, laid-out, laid-in}
 use Rattle.base.proofs.Matrix.{row-fits, rows-apart}
@@ -23,7 +25,10 @@ use Rattle.field.proofs.Congruence.{cong-by}
 use Rattle.row_steps.specs.Rows.{addEntry, addRow, scaleRow}
 use Rattle.row_steps.proofs.Rows.{below-add, below-scale}
 use Rattle.field.specs.Dot.{at}
-use Rattle.elimination.specs.Elimination.{State, scaled, clear, usable, pivotOf, useRow, column, gauss, start, reduced, clearRow, clearTo, Flat, view, flatPivot, flatUse, flatColumn, flatReduce, Shows}
+use Rattle.gauss.specs.Gauss.{State, scaled, clear, usable, pivotOf, useRow, column, gauss, start, reduced, elsewhere, others, columnSteps, steps}
+use Rattle.gauss.proofs.Steps.{column-steps-le}
+use Rattle.elimination.specs.Inner.{buffers, Reduction}
+use Rattle.elimination.specs.Elimination.{clearRow, clearTo, Flat, view, flatPivot, flatUse, flatColumn, flatReduce, flatSteps, Shows}
 
 -- A COLUMN CLEARED
 module _ (p W k c : ℕ) where
@@ -116,12 +121,36 @@ module _ (p W k c : ℕ) where
       b : List ℕ
       b = clearTo p W k c n a
 
+  -- ITS SUBTRACTIONS
+  pub count-step : (r n m : ℕ) (a b : List ℕ) → c < W → b ≡ clearTo p W k c r a → n ≡ others r k (λ i. entry W a i c)
+      → m ≡ bit (elsewhere k (λ i. entry W b i c) r) → n + m ≡ others (r + 1) k (λ i. entry W a i c)
+  unfolding others elsewhere
+  count-step r n m a b l e f g =
+      ap₂ _+_ f (g ∙ ap (λ x. bit (not (eqb k r) && not (eqb x 0))) (ap (λ (z : List ℕ). entry W z r c) e ∙ clear-late r a r c (omega arith) l))
+      ∙ sym (sum-step r (λ i. bit (elsewhere k (λ x. entry W a x c) i)))
+
+  -- scaling the pivot row leaves the other rows, and the pivot row does not count
+  pub scaling-counts : (R h : ℕ) (a : List ℕ) → c < W → others R k (λ i. entry W (scaleRow p h (k * W) W a) i c) ≡ others R k (λ i. entry W a i c)
+  unfolding others elsewhere scaleRow
+  scaling-counts R h a l = sum-ext R _ _ (λ i m. either k i (counted i (entry W (scaleRow p h (k * W) W a) i c) ≡ counted i (entry W a i c))
+      (λ e. rw (eq-eqb k i e) refl)
+      (λ e. ap (counted i) (laid-out _ (k * W) W a (i * W + c) 0 (⊎-elim (λ q. inl (omega arith)) (λ q. inr (omega arith)) (rows-apart W i k (λ d. e (sym d)))))))
+    where
+      counted : ℕ → ℕ → ℕ
+      counted i x = bit (not (eqb k i) && not (eqb x 0))
+
 -- THE BUFFER SHOWS THE MATRIX
 -- what is read off two matrices that agree inside the range is the same
 module _ (R : ℕ) (s t : State) (marks : (i : ℕ) → i < R → s .used i ≡ t .used i) where
   pivot-agrees : (c : ℕ) → ((i : ℕ) → i < R → s .mat i c ≡ t .mat i c) → pivotOf R c s ≡ pivotOf R c t
   unfolding pivotOf usable
   pivot-agrees c h = first-ext (usable s c) (usable t c) R (λ i m. rw (marks i m, h i m) refl)
+
+  steps-agree : (c : ℕ) → ((i : ℕ) → i < R → s .mat i c ≡ t .mat i c) → columnSteps R c s ≡ columnSteps R c t
+  unfolding columnSteps others elsewhere
+  steps-agree c h =
+      ap (λ k. pick (ltb k R) (others R k (λ i. s .mat i c)) 0) (pivot-agrees c h)
+      ∙ ap (λ n. pick (ltb (pivotOf R c t) R) n 0) (sum-ext R _ _ (λ i m. ap (λ x. bit (not (eqb (pivotOf R c t) i) && not (eqb x 0))) (h i m)))
 
 module _ (p R W : ℕ) (s : Flat) (t : State) (S : Shows p R W s t) where
   pub pivot-shows : (c : ℕ) → c < W → flatPivot R W c s ≡ pivotOf R c t
@@ -205,6 +234,13 @@ module _ (p : ℕ) (P : Prime p) (R W : ℕ) where
   unfolding reduced
   reduced-shows s G S C l = reduce-shows s (start p G) S C l
 
+  pub steps-show : (s : Flat) (t : State) → Shows p R W s t → (c : ℕ) → c ≤ W → flatSteps p R W c s ≡ steps p R c t
+  unfolding flatSteps steps
+  steps-show s t S zero l = refl
+  steps-show s t S (suc c) l =
+      let u = reduce-shows s t S c (omega arith) in
+      ap₂ _+_ (steps-show s t S c (omega arith)) (steps-agree R (view W (flatReduce p R W c s)) (gauss p R c t) (u .rows) c (λ i m. u .entries i c m l))
+
 -- STEPS OF THE CODE
 module _ (p R W : ℕ) where
   pub column-some : (c : ℕ) (s t : Flat) (r : ℕ) → r ≡ flatPivot R W c s → r < R → t ≡ flatUse p R W r c s → t ≡ flatColumn p R W c s
@@ -214,6 +250,24 @@ module _ (p R W : ℕ) where
   pub column-none : (c : ℕ) (s : Flat) (r : ℕ) → r ≡ flatPivot R W c s → R ≤ r → s ≡ flatColumn p R W c s
   unfolding flatColumn
   column-none c s r e l = rw (← e, le-ltb r R l)
+
+  pub counts-some : (c : ℕ) (s : Flat) (r n : ℕ) → r ≡ flatPivot R W c s → r < R → n ≡ others R r (λ i. entry W (s .mat) i c) → n ≡ columnSteps R c (view W s)
+  unfolding columnSteps flatPivot
+  counts-some c s r n e l h = rw (← e, lt-ltb r R l) h
+
+  pub counts-none : (c : ℕ) (s : Flat) (r : ℕ) → r ≡ flatPivot R W c s → R ≤ r → 0 ≡ columnSteps R c (view W s)
+  unfolding columnSteps flatPivot
+  counts-none c s r e l = rw (← e, le-ltb r R l)
+
+  pub counts-step : (c : ℕ) (s t : Flat) (n m : ℕ) → t ≡ flatReduce p R W c s → n ≡ flatSteps p R W c s → m ≡ columnSteps R c (view W t)
+      → n + m ≡ flatSteps p R W (c + 1) s
+  unfolding flatSteps
+  counts-step c s t n m e f g = rw (add-one c, f, g, e)
+
+  pub counts-le : (c : ℕ) (s : Flat) → flatSteps p R W c s ≤ c * R
+  unfolding flatSteps
+  counts-le zero s = omega arith
+  counts-le (suc c) s = omega (arith, counts-le c s, column-steps-le R c (view W (flatReduce p R W c s)))
 
   pub reduce-step : (c : ℕ) (s t u : Flat) → t ≡ flatReduce p R W c s → u ≡ flatColumn p R W c t → u ≡ flatReduce p R W (c + 1) s
   unfolding flatReduce
@@ -236,3 +290,6 @@ module _ (p R W : ℕ) where
       → w ≡ c + 1 → _≡_ {A = Flat} (record { mat = m; used = set u r w }) (flatUse p R W r c (record { mat = a; used = u }))
   unfolding flatUse
   used-is r c a u b m k w ek eb em ew = rw (em, eb, ek, ew, add-one c)
+
+pub counted-le : {p R W C : ℕ} {a u b v : List ℕ} {n : ℕ} → Reduction p R W C a u b v n → n ≤ C * R
+counted-le {p} {R} {W} {C} {a} {u} r = rw (r .steps) (counts-le p R W C (buffers a u))

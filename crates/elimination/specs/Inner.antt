@@ -3,14 +3,17 @@
 -- buffers: the two lent buffers, the matrix and the marks of its rows, as one
 -- Fits: the buffers hold R rows of W entries, at most 64, and R marks
 -- Ready: besides, p is a prime and every entry is below it
--- RowCleared, ColumnCleared, RowUsed, ColumnPassed, Reduction: what clear_row, clear_column, use_row, pass_column and reduce leave
+-- RowCleared, ColumnCleared, RowUsed, ColumnPassed, Reduction: what clear_row, clear_column, use_row, pass_column and reduce leave, and the number n of
+-- subtractions that each counts
 use Prim.Native.Nat.{ℕ, _*_, _≤_}
 use mathlib.Core.Path.{_≡_}
 use mathlib.Core.List.{List}
 use lib.ListN.{length}
-use Rattle.base.specs.Matrix.{Below}
+use Rattle.base.specs.Matrix.{entry, Below}
+use Rattle.base.specs.Sum.{bit}
 use Rattle.field.specs.Prime.{Prime}
-use Rattle.elimination.specs.Elimination.{clearRow, clearTo, Flat, flatUse, flatColumn, flatReduce}
+use Rattle.gauss.specs.Gauss.{elsewhere, others, columnSteps}
+use Rattle.elimination.specs.Elimination.{clearRow, clearTo, Flat, view, flatUse, flatColumn, flatReduce, flatSteps}
 
 abbrev pub buffers : List ℕ → List ℕ → Flat
 buffers a u = record { mat = a; used = u }
@@ -25,17 +28,22 @@ pub record Ready (p R W : ℕ) (a u : List ℕ) : Type 0 where
   pub prime : Prime p
   pub below : Below p a
 
-pub record RowCleared (p W k c r : ℕ) (a b : List ℕ) : Type 0 where
+pub record RowCleared (p W k c r : ℕ) (a b : List ℕ) (n : ℕ) : Type 0 where
   pub matrix : b ≡ clearRow p W k c r a
+  pub steps : n ≡ bit (elsewhere k (λ i. entry W a i c) r)
 
-pub record ColumnCleared (p R W k c : ℕ) (a b : List ℕ) : Type 0 where
+pub record ColumnCleared (p R W k c : ℕ) (a b : List ℕ) (n : ℕ) : Type 0 where
   pub matrix : b ≡ clearTo p W k c R a
+  pub steps : n ≡ others R k (λ i. entry W a i c)
 
-pub record RowUsed (p R W k c : ℕ) (a u b v : List ℕ) : Type 0 where
+pub record RowUsed (p R W k c : ℕ) (a u b v : List ℕ) (n : ℕ) : Type 0 where
   pub state : buffers b v ≡ flatUse p R W k c (buffers a u)
+  pub steps : n ≡ others R k (λ i. entry W a i c)
 
-pub record ColumnPassed (p R W c : ℕ) (a u b v : List ℕ) : Type 0 where
+pub record ColumnPassed (p R W c : ℕ) (a u b v : List ℕ) (n : ℕ) : Type 0 where
   pub state : buffers b v ≡ flatColumn p R W c (buffers a u)
+  pub steps : n ≡ columnSteps R c (view W (buffers a u))
 
-pub record Reduction (p R W C : ℕ) (a u b v : List ℕ) : Type 0 where
+pub record Reduction (p R W C : ℕ) (a u b v : List ℕ) (n : ℕ) : Type 0 where
   pub state : buffers b v ≡ flatReduce p R W C (buffers a u)
+  pub steps : n ≡ flatSteps p R W C (buffers a u)

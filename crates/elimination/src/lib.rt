@@ -1,5 +1,5 @@
 // Gauss-Jordan elimination modulo a prime on lent flat buffers. `a` holds `rows` rows of `width` entries; `used` holds, for each row, 0 or
-// one more than the column of its pivot.
+// one more than the column of its pivot. Each function that subtracts multiples of a pivot row gives the number of its subtractions.
 ghost use mathlib.Core.Path.{_≡_};
 ghost use Prim.Native.Nat.{_+_, _*_, _<_, _≤_};
 ghost use lib.ListN.{length};
@@ -9,33 +9,36 @@ ghost use Rattle.elimination.specs.Elimination.{flatPivot};
 ghost use Rattle.elimination.specs.Inner.{buffers, Fits, Ready, RowCleared, ColumnCleared, RowUsed, ColumnPassed, Reduction};
 
 // Clears the entry of row r in a column by the pivot row k.
-fn clear_row(a: &mut [u16], width: usize, k: usize, col: usize, r: usize, p: u16)
+fn clear_row(a: &mut [u16], width: usize, k: usize, col: usize, r: usize, p: u16) -> usize
     requires { ⌜ (r * width + width ≤ length (now a)) × (k * width + width ≤ length (now a)) × (col < width) × (0 < p) ⌝ }
     requires { ⌜ Below p (now a) ⌝ }
-    ensures { λ _. ⌜ RowCleared p width k col r (now (a .entry)) (now (a .exit)) ⌝ }
+    ensures { λ n. ⌜ RowCleared p width k col r (now (a .entry)) (now (a .exit)) n ⌝ }
 {
     if r == k {
-        return;
+        return 0;
     }
     let t = r * width;
     let f = a[t + col];
     if f == 0 {
-        return;
+        return 0;
     }
     row_steps::add_row(a, width, t, k * width, p - f, p);
+    1
 }
 
 // Clears a column in every row but the pivot row k, by that row.
-fn clear_column(a: &mut [u16], rows: usize, width: usize, k: usize, col: usize, p: u16)
+fn clear_column(a: &mut [u16], rows: usize, width: usize, k: usize, col: usize, p: u16) -> usize
     requires { ⌜ (length (now a) ≡ rows * width) × (k < rows) × (col < width) × (0 < p) ⌝ }
     requires { ⌜ Below p (now a) ⌝ }
-    ensures { λ _. ⌜ ColumnCleared p rows width k col (now (a .entry)) (now (a .exit)) ⌝ }
+    ensures { λ n. ⌜ ColumnCleared p rows width k col (now (a .entry)) (now (a .exit)) n ⌝ }
 {
+    let mut steps = 0;
     let mut r = 0;
     while r < rows {
-        clear_row(a, width, k, col, r, p);
+        steps += clear_row(a, width, k, col, r, p);
         r += 1;
     }
+    steps
 }
 
 // The topmost unused row with an entry in the column, or `rows`.
@@ -74,18 +77,18 @@ fn use_row(
     k: usize,
     col: usize,
     p: u16,
-)
+) -> usize
     requires { ⌜ Ready p rows width (now a) (now used) ⌝ }
     requires { ⌜ (k < rows) × (col < width) ⌝ }
     requires { ⌜ Inverses (now table) ⌝ }
-    ensures { λ _. ⌜ RowUsed p rows width k col (now (a .entry)) (now (used .entry)) (now (a .exit)) (now (used .exit)) ⌝ }
+    ensures { λ n. ⌜ RowUsed p rows width k col (now (a .entry)) (now (used .entry)) (now (a .exit)) (now (used .exit)) n ⌝ }
 {
     let t = k * width;
     let x = a[t + col];
     let scale = field::inverse_by(table, p, x);
     used[k] = mark(col);
     row_steps::scale_row(a, width, t, scale, p);
-    clear_column(a, rows, width, k, col, p);
+    clear_column(a, rows, width, k, col, p)
 }
 
 // One column of the elimination.
@@ -97,28 +100,38 @@ fn pass_column(
     width: usize,
     col: usize,
     p: u16,
-)
+) -> usize
     requires { ⌜ Ready p rows width (now a) (now used) ⌝ }
     requires { ⌜ col < width ⌝ }
     requires { ⌜ Inverses (now table) ⌝ }
-    ensures { λ _. ⌜ ColumnPassed p rows width col (now (a .entry)) (now (used .entry)) (now (a .exit)) (now (used .exit)) ⌝ }
+    ensures { λ n. ⌜ ColumnPassed p rows width col (now (a .entry)) (now (used .entry)) (now (a .exit)) (now (used .exit)) n ⌝ }
 {
     let k = find_pivot(a, used, rows, width, col);
     if k < rows {
-        use_row(table, a, used, rows, width, k, col, p);
+        return use_row(table, a, used, rows, width, k, col, p);
     }
+    0
 }
 
 // Gauss-Jordan elimination by the first `pivots` columns.
-pub fn reduce(a: &mut [u16], used: &mut [u16], rows: usize, width: usize, pivots: usize, p: u16)
+pub fn reduce(
+    a: &mut [u16],
+    used: &mut [u16],
+    rows: usize,
+    width: usize,
+    pivots: usize,
+    p: u16,
+) -> usize
     requires { ⌜ Ready p rows width (now a) (now used) ⌝ }
     requires { ⌜ pivots ≤ width ⌝ }
-    ensures { λ _. ⌜ Reduction p rows width pivots (now (a .entry)) (now (used .entry)) (now (a .exit)) (now (used .exit)) ⌝ }
+    ensures { λ n. ⌜ Reduction p rows width pivots (now (a .entry)) (now (used .entry)) (now (a .exit)) (now (used .exit)) n ⌝ }
 {
     let table = field::inverses();
+    let mut steps = 0;
     let mut col = 0;
     while col < pivots {
-        pass_column(&table, a, used, rows, width, col, p);
+        steps += pass_column(&table, a, used, rows, width, col, p);
         col += 1;
     }
+    steps
 }

@@ -14,7 +14,7 @@ use Rattle.base.specs.Fill.{tab}
 use Rattle.base.proofs.Fill.{tab-ext}
 use Rattle.field.proofs.Dot.{dot-ext}
 use Rattle.read_off.specs.ReadOff.{shown, flatShown, flatUnsolved, Beside, solvable, refuted}
-use Rattle.elimination.specs.Elimination.{reduced}
+use Rattle.gauss.specs.Gauss.{reduced}
 use Rattle.elimination.specs.Inner.{buffers}
 use Rattle.read_off.proofs.Reduced as system
 use Rattle.read_off.proofs.Reduced.{shown-small}

@@ -9,8 +9,9 @@ use Rattle.base.specs.Search.{every, first, firstFrom}
 use Rattle.base.specs.Sum.{bit}
 use Rattle.field.specs.Prime.{inverseOf}
 use Rattle.row_steps.specs.Rows.{addRow, scaleRow}
-use Rattle.read_off.specs.ReadOff.{pivotRow, shown, unsolved, allSolved, elsewhere, alone, fixes, flatShown, flatUnsolved, flatFixes}
-use Rattle.elimination.specs.Elimination.{State, scaled, clear, usable, pivotOf, useRow, column, gauss, start, reduced, clearRow, clearTo, Flat, flatPivot, flatUse, flatColumn, flatReduce}
+use Rattle.read_off.specs.ReadOff.{pivotRow, shown, unsolved, allSolved, alone, fixes, flatShown, flatUnsolved, flatFixes}
+use Rattle.gauss.specs.Gauss.{elsewhere, State, scaled, clear, usable, pivotOf, useRow, column, gauss, start, reduced}
+use Rattle.elimination.specs.Elimination.{clearRow, clearTo, Flat, flatPivot, flatUse, flatColumn, flatReduce}
 use Rattle.elimination.specs.Inner.{buffers}
 
 abbrev rows : List (List ℕ) → ℕ → ℕ → ℕ

@@ -18,10 +18,10 @@ use Rattle.base.proofs.Sum.{sum-one, sum-ext, sum-scale, sum-split, sum-unit, u
 use Rattle.field.specs.Prime.{Prime}
 use Rattle.field.proofs.Congruence.{cong-by, cong-add, cong-mul, cong-comb, sum-mod}
 use Rattle.field.specs.Dot.{dot, RowFor}
-use Rattle.read_off.specs.ReadOff.{pivotRow, shown, unsolved, elsewhere, alone, fixes, Refutes, Beside, solvable, refuted, Unseen, Position, fixed, free, Sweeps, turned, sweep}
-use Rattle.elimination.specs.Elimination.{State, usable, pivotOf, reduced, Solution, Spanned}
+use Rattle.read_off.specs.ReadOff.{pivotRow, shown, unsolved, alone, fixes, Refutes, Beside, solvable, refuted, Unseen, Position, fixed, free, Sweeps, turned, sweep}
+use Rattle.gauss.specs.Gauss.{elsewhere, State, usable, pivotOf, reduced, Solution, Spanned}
 use Rattle.field.proofs.Dot.{dot-comm, dot-comb, dot-comb-right, dot-mod, dot-mod-right, dot-unit, dot-none, dot-zero, dot-assoc, row-reads}
-use Rattle.elimination.proofs.Elimination.{Linear, Shape, All, usable-true, usable-false, shape, same, same-solutions, spanned-linear, spanned-rows}
+use Rattle.gauss.proofs.Gauss.{Linear, Shape, All, usable-true, usable-false, shape, same, same-solutions, spanned-linear, spanned-rows, never-pivot}
 
 -- CERTIFICATES
 -- they depend on the residues inside the range only
@@ -135,6 +135,14 @@ beside p P R C b G = go (first (usable s b) R) (first-is (usable s b) R)
           (λ j u. ap (λ z. z % p) (times-used p R C s S b i j m u));
     }))
 
+-- a column that is a combination of those before it has no pivot, so every vector read off is 0 there
+pub shown-dependent : (p : ℕ) → Prime p → (R C b c : ℕ) (G : ℕ → ℕ → ℕ) (y : ℕ → ℕ) → c < C → Solution p R c G (λ i. G i c) y → shown R b (reduced p R C G) c ≡ 0
+shown-dependent p P R C b c G y l s = go (beside p P R c c G)
+  where
+    go : Beside p R c c G (unsolved R c (reduced p R c G)) → shown R b (reduced p R C G) c ≡ 0
+    go (solvable e t) = shown-free p R C (reduced p R C G) (shape p P R C G) b c (λ i m. never-pivot p P R c C G e l i)
+    go (refuted m z r) = absurd (exclusive p R c G (λ i. G i c) y z s r)
+
 -- THE KERNEL
 -- t solves the homogeneous row v
 unfoldable Kills : ℕ → ℕ → (ℕ → ℕ) → (ℕ → ℕ) → Type 0
@@ -153,14 +161,14 @@ unfoldable null : (p R f : ℕ) → State → ℕ → ℕ
 null p R f s j = 1 * unit f j + (p - 1) * shown R f s j
 
 -- y - x = 0 where x = y
-minus : (p : ℕ) → 1 < p → (x y : ℕ) → x % p ≡ y % p → (y + (p - 1) * x) % p ≡ 0
+pub minus : (p : ℕ) → 1 < p → (x y : ℕ) → x % p ≡ y % p → (y + (p - 1) * x) % p ≡ 0
 minus p big x y h = go (p - 1) (omega arith)
   where
     go : (n : ℕ) → n + 1 ≡ p → (y + n * x) % p ≡ 0
     go n e = cong-add p y x (n * x) (n * x) (sym h) refl ∙ cong-by p x _ 0 (omega (arith, ap (λ z. x * z) e)) ∙ zero-mod p
 
 -- x = - z where z + x = 0
-negated : (p : ℕ) → 1 < p → (x z : ℕ) → (z + x) % p ≡ 0 → ((p - 1) * x) % p ≡ z % p
+pub negated : (p : ℕ) → 1 < p → (x z : ℕ) → (z + x) % p ≡ 0 → ((p - 1) * x) % p ≡ z % p
 negated p big x z h = go (p - 1) (omega arith)
   where
     go : (n : ℕ) → n + 1 ≡ p → (n * x) % p ≡ z % p

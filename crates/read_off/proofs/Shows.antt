@@ -7,9 +7,10 @@ use lib.Dec.{leb, ltb}
 use borrow.Author.Tests.{ltb-true}
 use Rattle.base.specs.Choice.{pick}
 use Rattle.base.proofs.Search.{first-ext}
-use Rattle.elimination.specs.Elimination.{State, Flat, view, Shows}
+use Rattle.gauss.specs.Gauss.{elsewhere, State}
+use Rattle.elimination.specs.Elimination.{Flat, view, Shows}
 use Rattle.elimination.proofs.Flat.{pivot-shows}
-use Rattle.read_off.specs.ReadOff.{pivotRow, shown, unsolved, elsewhere, alone, fixes, flatShown, flatUnsolved, flatFixes}
+use Rattle.read_off.specs.ReadOff.{pivotRow, shown, unsolved, alone, fixes, flatShown, flatUnsolved, flatFixes}
 
 module _ (R : ℕ) (s t : State) (marks : (i : ℕ) → i < R → s .used i ≡ t .used i) where
   pivot-row-agrees : (q : ℕ) → pivotRow R (s .used) q ≡ pivotRow R (t .used) q

@@ -3,7 +3,6 @@
 -- shown: entry j of the vector read off column b, the right side of the row whose pivot stands in column j; 0 where there is none
 -- unsolved: the first unused row with an entry in column b, an equation 0 = something; R where there is none
 -- allSolved: no unused row has an entry in any of the m columns from C on: every system with its right side in one of them has a solution
--- elsewhere: column j is not q, and the row has an entry there
 -- alone: the row has no entry in the first C columns but at q
 -- fixes: position q is determined, as the reduced matrix shows it: the row with its pivot in q has no other entry in the first C columns
 -- flatShown, flatUnsolved, flatAllSolved, flatFixes: shown, unsolved, allSolved, fixes read off a buffer
@@ -16,14 +15,15 @@
 -- sweep: e_q in the first l entries, then the negative of x
 use mathlib.Core.Path.{_≡_}
 use mathlib.Core.Logic.{_≢_}
-use mathlib.Core.Bool.{Bool, true, false, not, _&&_}
+use mathlib.Core.Bool.{Bool, true, false, _&&_}
 use Prim.Native.Nat.{ℕ, suc, _+_, _-_, _*_, _%_, _<_}
 use lib.Dec.{eqb, leb, ltb}
 use Rattle.base.specs.Choice.{pick}
 use Rattle.base.specs.Search.{every, first}
 use Rattle.base.specs.Sum.{unit}
 use Rattle.field.specs.Dot.{dot, RowFor}
-use Rattle.elimination.specs.Elimination.{State, pivotOf, reduced, Flat, view, flatPivot, Solution}
+use Rattle.gauss.specs.Gauss.{State, pivotOf, reduced, elsewhere, Solution}
+use Rattle.elimination.specs.Elimination.{Flat, view, flatPivot}
 
 -- ON MATRICES
 unfoldable pub pivotRow : ℕ → (ℕ → ℕ) → ℕ → ℕ
@@ -37,9 +37,6 @@ unsolved R b s = pivotOf R b s
 
 unfoldable pub allSolved : (R C m : ℕ) → State → Bool
 allSolved R C m s = every m (λ q. leb R (unsolved R (C + q) s))
-
-unfoldable pub elsewhere : ℕ → (ℕ → ℕ) → ℕ → Bool
-elsewhere q row j = not (eqb q j) && not (eqb (row j) 0)
 
 unfoldable pub alone : ℕ → (ℕ → ℕ) → ℕ → Bool
 alone C row q = leb C (first (elsewhere q row) C)

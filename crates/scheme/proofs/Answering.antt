@@ -24,7 +24,7 @@ use Rattle.scheme.specs.declared.Fate.{Fate}
 use Rattle.scheme.specs.declared.Fate.the-variants.{Kept, Aborted}
 use Rattle.scheme.specs.Answers.{paperJudgement, paperFate, fair, disagree, isARow, isAVector, isNeither, yes, no, undetermined, inconsistent}
 use Rattle.scheme.specs.Dealing.{judgementOf, fateOf, pairValue, disagrees, rehearse}
-use Rattle.scheme.specs.Sets.{holds, members, hasRow, hasSweep, kind, determines, isPrivate}
+use Rattle.scheme.specs.Sets.{holds, members, hasRow, hasSweep, rowSteps, kind, determines, isPrivate}
 use Rattle.scheme.specs.Opening.{gives, opening, openedBy, combine}
 use Rattle.scheme.specs.Calls.{decide, pointsRules, dealRules, dealAllRules, pairValueRules, judgeRules, outcomeRules, rehearseRules, setRules, judgeSetRules, openRules, openCall, combineRules}
 use Rattle.scheme.specs.Answering.{AllLowest, Marked, AllMarked, Answers, Behind, OpenAnswers, Answering}
@@ -70,7 +70,10 @@ decide-given b = picked Given b yes no refl refl
 
 pub kind-given : (S : Setup) (X : ℕ → Bool) (q : ℕ) → Given (kind S X q)
 unfolding Given kind
-kind-given S X q = picked Given (hasRow S X q) isARow (pick (hasSweep S X q) isAVector isNeither) refl (picked Given (hasSweep S X q) isAVector isNeither refl refl)
+kind-given S X q =
+    let k = rowSteps S X q in
+    picked Given (hasRow S X q) (isARow k) (pick (hasSweep S X q) (isAVector k) (isNeither k)) refl
+    (picked Given (hasSweep S X q) (isAVector k) (isNeither k) refl refl)
 
 -- an opening: the secrets, or 6, or 7
 pub data OpeningIs (S : Setup) (s : ℕ) (xs : List ℕ) : Type 0 where

@@ -23,7 +23,7 @@ use Rattle.field.specs.Dot.{at, dot, RowFor}
 use Rattle.field.proofs.Dot.{dot-comm, dot-ext, dot-mod, dot-mod-right, dot-unit, dot-zero, dot-assoc, row-reads}
 use Rattle.scheme.specs.Setup.{Setup, dim}
 use Rattle.scheme.specs.Answers.{isARow, isAVector, isNeither, undetermined, inconsistent}
-use Rattle.scheme.specs.Sets.{members, hasRow, hasSweep, kind, determines}
+use Rattle.scheme.specs.Sets.{members, hasRow, hasSweep, rowSteps, kind, determines}
 use Rattle.scheme.specs.Opening.{gives, openedBy, opening}
 use Rattle.scheme.proofs.Sets.{count, rows, unit-mod, is-row, is-sweep, sweep-zeros, sweep-begins, ARow, AVector, row-there, sweep-there, theRow, theRow-is, same-entry}
 
@@ -35,18 +35,18 @@ zero-right : (p d : ℕ) (u v : ℕ → ℕ) → ((j : ℕ) → j < d → v j % 
 zero-right p d u v h = ap (λ x. x % p) (dot-comm d u v) ∙ dot-zero p d v u h
 
 -- a vector's residues, as a list
-residues : ℕ → ℕ → (ℕ → ℕ) → List ℕ
+pub residues : ℕ → ℕ → (ℕ → ℕ) → List ℕ
 residues p d v = tab d (λ c. v c % p)
 
-residues-vec : (p d : ℕ) (v : ℕ → ℕ) → 0 < p → Vec p d (residues p d v)
+pub residues-vec : (p d : ℕ) (v : ℕ → ℕ) → 0 < p → Vec p d (residues p d v)
 unfolding residues
 residues-vec p d v h = tab-vec p d _ (λ c l. mod-lt (v c) h)
 
-residues-at : (p d : ℕ) (v : ℕ → ℕ) (c : ℕ) → c < d → at (residues p d v) c ≡ v c % p
+pub residues-at : (p d : ℕ) (v : ℕ → ℕ) (c : ℕ) → c < d → at (residues p d v) c ≡ v c % p
 unfolding residues
 residues-at p d v c l = getD-tab d _ 0 c l
 
-residues-mod : (p d : ℕ) (v : ℕ → ℕ) (c : ℕ) → c < d → at (residues p d v) c % p ≡ v c % p
+pub residues-mod : (p d : ℕ) (v : ℕ → ℕ) (c : ℕ) → c < d → at (residues p d v) c % p ≡ v c % p
 residues-mod p d v c l = ap (λ x. x % p) (residues-at p d v c l) ∙ mod-mod (v c) p
 
 -- a vector that begins with the unit vector at q reads entry q off a vector that is 0 from place l on
@@ -119,24 +119,24 @@ module _ (S : Setup) (X : ℕ → Bool) (q : ℕ) where
       false≢true (sym (no-row (at (v .entries)) (omega arith) (zeros-of v) ne) ∙ has)
 
   -- THE JUDGEMENT
-  pub kind-row : hasRow S X q ≡ true → kind S X q ≡ isARow
+  pub kind-row : hasRow S X q ≡ true → kind S X q ≡ isARow (rowSteps S X q)
   unfolding kind
   kind-row r = rw r
 
-  pub kind-vector : 1 < S .p → q < S .l → hasSweep S X q ≡ true → kind S X q ≡ isAVector
+  pub kind-vector : 1 < S .p → q < S .l → hasSweep S X q ≡ true → kind S X q ≡ isAVector (rowSteps S X q)
   unfolding kind
   kind-vector big l v = rw (is-false (hasRow S X q) (λ r. never-both big l r v), v)
 
-  pub kind-neither : hasRow S X q ≡ false → hasSweep S X q ≡ false → kind S X q ≡ isNeither
+  pub kind-neither : hasRow S X q ≡ false → hasSweep S X q ≡ false → kind S X q ≡ isNeither (rowSteps S X q)
   unfolding kind
   kind-neither r v = rw (r, v)
 
 -- "row, vector or neither, each exactly when that is the fact"
 pub record KindIs (S : Setup) (X : ℕ → Bool) (q : ℕ) : Type 0 where
-  pub one : (kind S X q ≡ isARow) ⊎ ((kind S X q ≡ isAVector) ⊎ (kind S X q ≡ isNeither))
-  pub row : (kind S X q ≡ isARow) ↔ ARow S X q
-  pub vector : (kind S X q ≡ isAVector) ↔ AVector S X q
-  pub neither : (kind S X q ≡ isNeither) ↔ ((ARow S X q → ⊥) × (AVector S X q → ⊥))
+  pub one : (kind S X q ≡ isARow (rowSteps S X q)) ⊎ ((kind S X q ≡ isAVector (rowSteps S X q)) ⊎ (kind S X q ≡ isNeither (rowSteps S X q)))
+  pub row : (kind S X q ≡ isARow (rowSteps S X q)) ↔ ARow S X q
+  pub vector : (kind S X q ≡ isAVector (rowSteps S X q)) ↔ AVector S X q
+  pub neither : (kind S X q ≡ isNeither (rowSteps S X q)) ↔ ((ARow S X q → ⊥) × (AVector S X q → ⊥))
 
 -- two answers that are one have the same first value
 same-first : (a b c : Answer) → a ≡ b → a ≡ c → at (b .values) 0 ≡ at (c .values) 0

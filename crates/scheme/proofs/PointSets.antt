@@ -107,7 +107,7 @@ module _ (S : Setup) (on : OnPoints S) where
     node-rise : (i j : ℕ) → i < j → j < count S X → node S X i < node S X j
     node-rise i j h l = omega (arith, members-rise (S .n) X i j h l)
 
-    nodes-differ : Distinct (S .p) (count S X) (node S X)
+    pub nodes-differ : Distinct (S .p) (count S X) (node S X)
     nodes-differ = rising (node S X) node-below node-rise
 
     -- a member's row takes the values of a polynomial at 0, .., d - 1 to its value at the member's node

@@ -76,7 +76,7 @@ pub record AVector (S : Setup) (X : ℕ → Bool) (q : ℕ) : Type 0 where
 abbrev pub theRow : Setup → (ℕ → Bool) → ℕ → List ℕ
 theRow S X q = Option·getD (findRow S X q) []
 
-there : (o : Option (List ℕ)) → isThere o ≡ true → o ≡ some (Option·getD o [])
+pub there : (o : Option (List ℕ)) → isThere o ≡ true → o ≡ some (Option·getD o [])
 there none t = absurd (false≢true t)
 there (some v) t = refl
 

@@ -3,7 +3,7 @@
 -- accepts, rejects: a verdict as a record has it, 1 or 0, and after 0 the holder named
 -- kept, aborted: an outcome in the same way
 -- fair, disagree: a rehearsal in the same way, with the pair
--- isARow, isAVector, isNeither: the judgement of a set
+-- isARow, isAVector, isNeither: the judgement of a set, 1, 2 or 0, then its row steps
 -- yes, no: a question's answer
 -- undetermined, inconsistent: refusal 6 with the lowest position that has no row, refusal 7
 use mathlib.Core.Bool.{false}
@@ -49,14 +49,14 @@ fair = given (1 ∷ [])
 abbrev pub disagree : ℕ → ℕ → Answer
 disagree i j = given (0 ∷ i ∷ j ∷ [])
 
-abbrev pub isARow : Answer
-isARow = given (1 ∷ [])
+abbrev pub isARow : ℕ → Answer
+isARow k = given (1 ∷ k ∷ [])
 
-abbrev pub isAVector : Answer
-isAVector = given (2 ∷ [])
+abbrev pub isAVector : ℕ → Answer
+isAVector k = given (2 ∷ k ∷ [])
 
-abbrev pub isNeither : Answer
-isNeither = given (0 ∷ [])
+abbrev pub isNeither : ℕ → Answer
+isNeither k = given (0 ∷ k ∷ [])
 
 abbrev pub yes : Answer
 yes = given (1 ∷ [])
@@ -101,9 +101,9 @@ paperRehearsal (rehearsal.Disagree i j) = disagree i j
 paperRehearsal (rehearsal.Refused k) = refused k
 
 abbrev pub paperSetJudged : SetJudged → Answer
-paperSetJudged set.Row = isARow
-paperSetJudged set.Vector = isAVector
-paperSetJudged set.Neither = isNeither
+paperSetJudged (set.Row k) = isARow k
+paperSetJudged (set.Vector k) = isAVector k
+paperSetJudged (set.Neither k) = isNeither k
 paperSetJudged (set.Refused k) = refused k
 
 abbrev pub paperDecided : Decided → Answer

@@ -9,6 +9,7 @@
 use mathlib.Core.Path.{_≡_}
 use mathlib.Core.Bool.{Bool, true, not, _||_}
 use mathlib.Core.List.{List, [], _∷_, _++_}
+use mathlib.Core.Option.{some}
 use Prim.Native.Nat.{ℕ, _+_, _-_, _*_, _^_}
 use lib.Dec.{eqb, leb, ltb}
 use lib.ListN.{length, replicate}
@@ -23,7 +24,7 @@ use Rattle.scheme.specs.Setup.{Setup, dim}
 use Rattle.scheme.specs.Points.{pointsMatrix}
 use Rattle.scheme.specs.Answers.{yes, no, isARow, isAVector, isNeither}
 use Rattle.scheme.specs.Dealing.{dealt, partG, partH, pairValue, judge, outcome, isKept, shares, rehearse}
-use Rattle.scheme.specs.Sets.{holds, members, isRow, isSweep, kind, determines, isPrivate}
+use Rattle.scheme.specs.Sets.{holds, members, oneRow, isSweep, rowSteps, kind, determines, isPrivate}
 use Rattle.scheme.specs.Opening.{opening, combine}
 
 -- "1: p is none of the five"; "2: ℓ, e or n beyond its limits"
@@ -164,13 +165,12 @@ abbrev pub judgeSetCall : Setup → ℕ → ℕ → List ℕ → Answer
 judgeSetCall S s q out = answerBy (refusal (judgeSetRules S s q out)) (kind S (holds s) q)
 
 -- "It writes one of the kind found in a lent buffer of 32 entries: row entries by rising holder, or the vector, then zeros; for neither, 32
--- zeros. Which one of its kind is left open"
+-- zeros"; document 02, A6: the row is the one, and "Which sweeping vector is written is still left open, and only that"
 pub data JudgeSetLeft (S : Setup) (X : ℕ → Bool) (q : ℕ) : Answer → List ℕ → Type 0 where
-  of-row : (r : List ℕ) → Vec (S .p) (length (members (S .n) X)) r → isRow S (members (S .n) X) q r ≡ true
-      → JudgeSetLeft S X q isARow (r ++ replicate (32 - length r) 0)
+  of-row : (r : List ℕ) → oneRow S X q ≡ some r → JudgeSetLeft S X q (isARow (rowSteps S X q)) (r ++ replicate (32 - length r) 0)
   of-vector : (w : List ℕ) → Vec (S .p) (dim S) w → isSweep S (members (S .n) X) q w ≡ true
-      → JudgeSetLeft S X q isAVector (w ++ replicate (32 - length w) 0)
-  of-neither : JudgeSetLeft S X q isNeither (replicate 32 0)
+      → JudgeSetLeft S X q (isAVector (rowSteps S X q)) (w ++ replicate (32 - length w) 0)
+  of-neither : JudgeSetLeft S X q (isNeither (rowSteps S X q)) (replicate 32 0)
 
 -- OPEN, by the set s and its shares by rising holder, into ℓ lent secrets
 abbrev pub openRules : Setup → ℕ → List ℕ → List ℕ → List Rule

@@ -82,11 +82,11 @@ pub enum Rehearsal {
     Refused(u16),
 }
 
-// The judgement of a set at a position.
+// The judgement of a set at a position, with its row steps.
 pub enum SetJudged {
-    Row,
-    Vector,
-    Neither,
+    Row(u16),
+    Vector(u16),
+    Neither(u16),
     Refused(u16),
 }
 

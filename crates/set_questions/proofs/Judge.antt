@@ -9,6 +9,7 @@
 use mathlib.Core.Path.{_≡_, refl, sym, ap, _∙_}
 use mathlib.Core.Bool.{Bool, true, false, false≢true}
 use mathlib.Core.List.{List, _++_}
+use mathlib.Core.Option.{some}
 use Prim.Native.Nat.{ℕ, _+_, _-_, _*_, _%_, _≤_, _<_}
 use native.Mathlib.Nat.{mod-mod, mod-lt}
 use native.Mathlib.Omega.{arith}
@@ -22,24 +23,26 @@ use Rattle.base.specs.Search.{Vec}
 use Rattle.base.specs.Fill.{tab}
 use Rattle.base.specs.Matrix.{entry, Below}
 use Rattle.base.specs.Sum.{unit}
-use Rattle.base.proofs.Search.{every-ext}
+use Rattle.base.proofs.Search.{every-ext, firstVec-sound}
 use Rattle.base.proofs.Fill.{getD-tab, tab-vec, tab-ext, tab-is}
 use Rattle.field.specs.Dot.{at, RowFor}
 use Rattle.field.proofs.Congruence.{cong-two}
 use Rattle.field.proofs.Dot.{dot-ext, dot-same, dot-mod-right}
-use Rattle.read_off.specs.ReadOff.{shown, sweep, pivotRow, flatShown, flatUnsolved, allSolved, flatAllSolved, Beside, solvable, refuted, Sweeps}
-use Rattle.elimination.specs.Elimination.{Flat, reduced, view, flatPivot}
+use Rattle.read_off.specs.ReadOff.{shown, unsolved, sweep, pivotRow, flatShown, flatUnsolved, allSolved, flatAllSolved, Beside, solvable, refuted, Sweeps}
+use Rattle.gauss.specs.Gauss.{reduced}
+use Rattle.elimination.specs.Elimination.{Flat, view, flatPivot}
 use Rattle.elimination.specs.Inner.{buffers, Fits}
 use Rattle.read_off.proofs.Reduced.{beside, solution-mod, refutes-mod, row-is, unseen-is, turned-left, turned-right, sweep-is, shown-small}
 use Rattle.read_off.proofs.Shows.{unsolved-shows, shown-shows}
 use Rattle.scheme.specs.Setup.{Setup, dim}
 use Rattle.scheme.specs.Answers.{isARow, isAVector, isNeither}
-use Rattle.scheme.specs.Sets.{holds, members, isRow, hasRow, isSweep, hasSweep, kind, isPrivate}
+use Rattle.scheme.specs.Sets.{holds, members, hasRow, isOneRow, oneRow, isSweep, hasSweep, across, rowSteps, kind, isPrivate}
 use Rattle.scheme.specs.Calls.{judgeSetRules, JudgeSetLeft, of-row, of-vector, of-neither}
 use Rattle.scheme.proofs.Calls.{set-accepts, judgeSet-ok}
 use Rattle.scheme.proofs.Sets.{rows, unit-mod, is-row, is-sweep, row-there, sweep-there}
 use Rattle.scheme.proofs.Certificates.{no-row, sweep-in-hand, no-sweep, kind-row, kind-vector, kind-neither}
-use Rattle.set_systems.specs.Inner.{SetTaken, membersOf, across, aside, AcrossReduced, AsideReduced}
+use Rattle.set_rows.proofs.OneRow.{one-is-row, found-one, shows-one, shows-none}
+use Rattle.set_systems.specs.Inner.{SetTaken, membersOf, aside, AcrossReduced, AsideReduced}
 use Rattle.set_systems.proofs.Members.{prime-of, wide, few, narrow, zeros, part-size}
 use Rattle.set_questions.specs.Buffer.{SetBuffer}
 use Rattle.set_questions.specs.Inner.{negated, RowSought, VectorSought}
@@ -55,75 +58,38 @@ zeros-vec p k n pos l = record {
 }
 
 -- A RECONSTRUCTION ROW
--- k members, d equations; A is the system
-module _ {S : Setup} {s : ℕ} (ok : SetTaken S s) {q : ℕ} (inside : q < S .l) {a u : List ℕ} (R : AcrossReduced S s q a u) where
-  A : ℕ → ℕ → ℕ
-  A = across (dim S) (S .M) (membersOf S s) q
-
+-- the reduced system shows the set's row, or that there is none
+module _ {S : Setup} {s : ℕ} (ok : SetTaken S s) {q : ℕ} (inside : q < S .l) {a u : List ℕ} {r : ℕ} (R : AcrossReduced S s q a u r)
+    {n d : ℕ} (K : n ≡ length (members 32 (holds s))) (D : d ≡ dim S) where
   k : ℕ
   k = length (membersOf S s)
 
-  x : ℕ → ℕ
-  x = shown (dim S) k (reduced (S .p) (dim S) k A)
+  pub row-fits : Fits d (n + 1) a u
+  row-fits = rw (D, members-are ok K) (record { size = R .shows .size; marks = R .shows .marks; narrow = omega (arith, few ok) })
 
-  in-rows : (j i : ℕ) → i < k → A j i ≡ rows S (holds s) i j
-  unfolding A k across
-  in-rows j i l = rw (lt-ltb i (length (membersOf S s)) l)
+  module _ {f : ℕ} (g : f ≡ flatUnsolved d (n + 1) n (buffers a u)) where
+    same-test : f ≡ unsolved (dim S) k (reduced (S .p) (dim S) k (across (dim S) (S .M) (membersOf S s) q))
+    unfolding k
+    same-test = (rw (D, members-are ok K) at g) ∙ unsolved-shows (S .p) (dim S) (k + 1) (buffers a u) _ (R .shows) k (omega arith)
 
-  in-unit : (j : ℕ) → A j k ≡ unit q j
-  unfolding A k across
-  in-unit j = rw (le-ltb (length (membersOf S s)) (length (membersOf S s)) (omega arith))
+    pub row-found : d ≤ f → (old : List ℕ) → length old ≡ n → {left : List ℕ} → left ≡ tab (length old) (flatShown d (n + 1) n (buffers a u)) → RowSought S s q old true r left
+    unfolding k
+    row-found l old size e =
+        let h = shows-one S (holds s) (prime-of ok) q (omega arith) (omega (arith, D, same-test)) in
+        record {
+          steps = R .steps;
+          found = λ t. found-one S (holds s) (prime-of ok) q _ (h .0) (h .1) ∙ ap some (sym ((rw (size, D, members-are ok K) at e)
+              ∙ tab-ext k _ _ (λ i m. shown-shows (S .p) (dim S) (k + 1) (buffers a u) _ (R .shows) k (omega arith) i)));
+          none = λ t. absurd (false≢true (sym t));
+        }
 
-  row-is-shown : RowFor (S .p) k (dim S) (rows S (holds s)) q x
-      → Vec (S .p) k (tab k x) × (isRow S (membersOf S s) q (tab k x) ≡ true)
-  unfolding k x
-  row-is-shown h = (
-    tab-vec (S .p) k x (λ i l. shown-small (S .p) (prime-of ok) (dim S) k k A i),
-    is-row S (membersOf S s) q (tab k x) (prime-of ok .big) (record {
-      gives = λ j l. ap (λ z. z % S .p) (dot-same k (at (tab k x)) x (λ i. rows S (holds s) i j) (λ i. rows S (holds s) i j) (λ i m. getD-tab k x 0 i m) (λ i m. refl))
-          ∙ h .gives j l;
-    }),
-  )
-
-  module _ {n d : ℕ} (K : n ≡ length (members 32 (holds s))) (D : d ≡ dim S) where
-    pub row-fits : Fits d (n + 1) a u
-    row-fits =
-        rw (D, members-are ok K) (record { size = R .shows .size; marks = R .shows .marks; narrow = omega (arith, few ok) })
-
-    module _ {f : ℕ} (g : f ≡ flatUnsolved d (n + 1) n (buffers a u)) where
-      row-certificate : Beside (S .p) (dim S) k k A f
-      unfolding k A
-      row-certificate =
-          rw ((rw (D, members-are ok K) at g) ∙ unsolved-shows (S .p) (dim S) (k + 1) (buffers a u) _ (R .shows) k (omega arith))
-          (beside (S .p) (prime-of ok) (dim S) k k A)
-
-      pub row-found : d ≤ f → (old : List ℕ) → length old ≡ n → {left : List ℕ} → left ≡ tab (length old) (flatShown d (n + 1) n (buffers a u)) → RowSought S s q old true left
-      unfolding k A x
-      row-found l old size {left} e = record { found = λ t. go row-certificate; none = λ t. absurd (false≢true (sym t)) }
-        where
-          shows : left ≡ tab k x
-          shows =
-              (rw (size, D, members-are ok K) at e)
-              ∙ tab-ext k _ x (λ i m. shown-shows (S .p) (dim S) (k + 1) (buffers a u) _ (R .shows) k (omega arith) i)
-
-          go : Beside (S .p) (dim S) k k A f → Vec (S .p) k left × (isRow S (membersOf S s) q left ≡ true)
-          go (solvable z h) =
-              rw shows (row-is-shown (row-is (S .p) k (dim S) (rows S (holds s)) q x
-              (solution-mod (S .p) (dim S) k A (λ j i. rows S (holds s) i j) (λ j. A j k) (unit q) x
-              (λ j i m n. ap (λ z. z % S .p) (in-rows j i n)) (λ j m. ap (λ z. z % S .p) (in-unit j)) h)))
-          go (refuted z y h) = absurd (omega (arith, D))
-
-      pub row-none : f < d → (old : List ℕ) → RowSought S s q old false old
-      unfolding k A
-      row-none l old = record { found = λ t. absurd (false≢true t); none = λ t. (go row-certificate, refl) }
-        where
-          go : Beside (S .p) (dim S) k k A f → hasRow S (holds s) q ≡ false
-          go (solvable z h) = absurd (omega (arith, D))
-          go (refuted z y h) =
-              let t = unseen-is (S .p) k (dim S) (rows S (holds s)) q (omega arith) y
-              (refutes-mod (S .p) (dim S) k A (λ j i. rows S (holds s) i j) (λ j. A j k) (unit q) y
-              (λ j i m n. ap (λ z. z % S .p) (in-rows j i n)) (λ j m. ap (λ z. z % S .p) (in-unit j)) h) in
-              no-row S (holds s) q y (omega arith) (t .zeros) (t .there)
+    pub row-none : f < d → (old : List ℕ) → RowSought S s q old false r old
+    unfolding k
+    row-none l old = record {
+      steps = R .steps;
+      found = λ t. absurd (false≢true t);
+      none = λ t. (shows-none S (holds s) (prime-of ok) q (omega arith) (omega (arith, D, same-test)), refl);
+    }
 
 -- A SWEEPING VECTOR
 -- what is read off a buffer of elements is an element
@@ -256,25 +222,28 @@ behind k out left Z l e = ap (λ r. left ++ r) (rw (Z, e) (drop-zeros k 32 l))
 
 module _ {S : Setup} {s : ℕ} (ok : SetTaken S s) {q : ℕ} (inside : q < S .l) {out : List ℕ} (Z : out ≡ replicate 32 0) where
   module _ {k : ℕ} (K : k ≡ length (members 32 (holds s))) {left : List ℕ} where
-    pub judged-row : Vec (S .p) (length (membersOf S s)) left × (isRow S (membersOf S s) q left ≡ true)
-        → (isARow ≡ kind S (holds s) q) × JudgeSetLeft S (holds s) q isARow (left ++ drop k out)
-    judged-row h =
-        let e = h .0 .size ∙ sym (K ∙ ap length (wide ok)) in (
-          sym (kind-row S (holds s) q (row-there S (holds s) q .1 (record { entries = left; ok = h .0; is = h .1 }))),
-          rw (behind k out left Z (omega (arith, few ok, h .0 .size)) e) (of-row left (h .0) (h .1)),
+    pub judged-row : {r : ℕ} → r ≡ rowSteps S (holds s) q → oneRow S (holds s) q ≡ some left
+        → (isARow r ≡ kind S (holds s) q) × JudgeSetLeft S (holds s) q (isARow r) (left ++ drop k out)
+    unfolding oneRow
+    judged-row g h =
+        let v = firstVec-sound (S .p) (length (membersOf S s)) (isOneRow S (membersOf S s) q) left h in
+        let e = v .0 .size ∙ sym (K ∙ ap length (wide ok)) in
+        rw g (
+          sym (kind-row S (holds s) q (row-there S (holds s) q .1 (record { entries = left; ok = v .0; is = one-is-row S (holds s) (prime-of ok) q left (v .1) }))),
+          rw (behind k out left Z (omega (arith, few ok, v .0 .size)) e) (of-row left h),
         )
 
   module _ {d : ℕ} (D : d ≡ dim S) {left : List ℕ} where
-    pub judged-vector : Vec (S .p) (dim S) left × (isSweep S (membersOf S s) q left ≡ true)
-        → (isAVector ≡ kind S (holds s) q) × JudgeSetLeft S (holds s) q isAVector (left ++ drop d out)
-    judged-vector h = (
+    pub judged-vector : {r : ℕ} → r ≡ rowSteps S (holds s) q → Vec (S .p) (dim S) left × (isSweep S (membersOf S s) q left ≡ true)
+        → (isAVector r ≡ kind S (holds s) q) × JudgeSetLeft S (holds s) q (isAVector r) (left ++ drop d out)
+    judged-vector g h = rw g (
       sym (kind-vector S (holds s) q (prime-of ok .big) inside (sweep-there S (holds s) q .1 (record { entries = left; ok = h .0; is = h .1 }))),
       rw (behind d out left Z (omega (arith, narrow ok, D)) (h .0 .size ∙ sym D)) (of-vector left (h .0) (h .1)),
     )
 
-  pub judged-neither : hasRow S (holds s) q ≡ false → hasSweep S (holds s) q ≡ false
-      → (isNeither ≡ kind S (holds s) q) × JudgeSetLeft S (holds s) q isNeither out
-  judged-neither r v = (sym (kind-neither S (holds s) q r v), rw Z of-neither)
+  pub judged-neither : {r : ℕ} → r ≡ rowSteps S (holds s) q → hasRow S (holds s) q ≡ false → hasSweep S (holds s) q ≡ false
+      → (isNeither r ≡ kind S (holds s) q) × JudgeSetLeft S (holds s) q (isNeither r) out
+  judged-neither g h v = rw g (sym (kind-neither S (holds s) q h v), rw Z of-neither)
 
 -- a part that comes back as it was
 pub back : (k : ℕ) (out left : List ℕ) → left ≡ take k out → left ++ drop k out ≡ out

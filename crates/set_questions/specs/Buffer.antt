@@ -1,5 +1,5 @@
--- What the buffer of a judged set holds, by the refusal: one of the kind found, or what it held. "Which one of its kind is left open", so that this
--- buffer alone is stated by its properties.
+-- What the buffer of a judged set holds, by the refusal: the row, a sweeping vector or zeros, or what it held. Which sweeping vector "is still left open, and
+-- only that" (document 02, A6), so that this buffer alone is stated by its properties.
 use mathlib.Core.Path.{_≡_}
 use mathlib.Core.List.{List}
 use Prim.Native.Nat.{ℕ}

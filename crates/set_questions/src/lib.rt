@@ -72,11 +72,17 @@ pub fn determines(s: Params, matrix: &[u16], set: u32) -> Decided
 }
 
 // A RECONSTRUCTION ROW
-// Writes a reconstruction row for position q into one entry for each member, where there is one.
-fn seek_row(s: Params, matrix: &[u16], set: u32, q: usize, out: &mut [u16]) -> bool
+// Whether a row was found, and the row steps that it took to know.
+struct Sought {
+    found: bool,
+    steps: u16,
+}
+
+// Writes the set's row for position q into one entry for each member, where there is one: it is 0 at each member whose column got no pivot.
+fn seek_row(s: Params, matrix: &[u16], set: u32, q: usize, out: &mut [u16]) -> Sought
     requires { ⌜ SetTaken (setupOf s (now matrix)) set ⌝ }
     requires { ⌜ (q < s .l) × (length (now out) ≡ length (members 32 (holds set))) ⌝ }
-    ensures { λ r. ⌜ RowSought (setupOf s (now (matrix .entry))) set q (now (out .entry)) r (now (out .exit)) ⌝ }
+    ensures { λ r. ⌜ RowSought (setupOf s (now (matrix .entry))) set q (now (out .entry)) (r .found) (r .steps) (now (out .exit)) ⌝ }
 {
     let mut buffer = [0u16; 528];
     let mut marks = [0u16; 16];
@@ -85,12 +91,15 @@ fn seek_row(s: Params, matrix: &[u16], set: u32, q: usize, out: &mut [u16]) -> b
     let end = d * (k + 1);
     let a = &mut buffer[..end];
     let used = &mut marks[..d];
-    set_systems::reduce_across(s, matrix, set, q, a, used);
+    let steps = set_systems::reduce_across(s, matrix, set, q, a, used);
     if read_off::unsolved(a, used, d, k + 1, k) < d {
-        return false;
+        return Sought {
+            found: false,
+            steps,
+        };
     }
     read_off::solution(a, used, d, k + 1, k, out);
-    true
+    Sought { found: true, steps }
 }
 
 // A SWEEPING VECTOR
@@ -177,7 +186,7 @@ fn clear(out: &mut [u16])
     }
 }
 
-// Judges a set at a position: a reconstruction row, a sweeping vector, or neither; one of the kind into 32 entries, then zeros.
+// Judges a set at a position: a reconstruction row, a sweeping vector, or neither, with the row steps; the row or a vector into 32 entries, then zeros.
 pub fn judge_set(s: Params, matrix: &[u16], set: u32, position: u16, out: &mut [u16]) -> SetJudged
     ensures { λ r. ⌜ paperSetJudged r ≡ judgeSetCall (setupOf s (now (matrix .entry))) set position (now (out .entry)) ⌝ }
     ensures { λ r. ⌜ SetBuffer (setupOf s (now (matrix .entry))) set position (now (out .entry)) (paperSetJudged r) (now (out .exit)) ⌝ }
@@ -189,12 +198,13 @@ pub fn judge_set(s: Params, matrix: &[u16], set: u32, position: u16, out: &mut [
     clear(out);
     let q = position as usize;
     let k = set_systems::size(set);
-    if seek_row(s, matrix, set, q, &mut out[..k]) {
-        return SetJudged::Row;
+    let row = seek_row(s, matrix, set, q, &mut out[..k]);
+    if row.found {
+        return SetJudged::Row(row.steps);
     }
     let d = s.dim();
     if seek_vector(s, matrix, set, q, &mut out[..d]) {
-        return SetJudged::Vector;
+        return SetJudged::Vector(row.steps);
     }
-    SetJudged::Neither
+    SetJudged::Neither(row.steps)
 }

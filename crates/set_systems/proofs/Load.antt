@@ -2,7 +2,7 @@
 -- row-part, row-last: a part of a row of a matrix that lies flat, and its last entry
 -- loaded-whole: the buffer is filled when every row is written
 -- Loading: filled with the entries g of R rows of W columns, the buffers x and u may be reduced by the first C columns; what is wanted is then done
--- loading: that holds of a system G of elements, where what is wanted follows from what the reduced buffers show
+-- loading: that holds of a system G of elements, where what is wanted follows from what the reduced buffers show and from the number of row steps
 use mathlib.Core.Path.{_≡_, sym, ap, _∙_}
 use mathlib.Core.List.{List}
 use Prim.Native.Nat.{ℕ, zero, suc, _+_, _*_, _/_, _%_, _≤_, _<_}
@@ -15,9 +15,10 @@ use Rattle.base.specs.Matrix.{entry, flat, Below}
 use Rattle.base.proofs.Fill.{getD-tab, length-tab, filled-store, filled-whole, flat-at, laid-filled}
 use Rattle.base.proofs.Matrix.{entry-fits}
 use Rattle.field.specs.Prime.{Prime}
-use Rattle.elimination.specs.Elimination.{reduced, Shows}
+use Rattle.gauss.specs.Gauss.{start, reduced, steps}
+use Rattle.elimination.specs.Elimination.{Shows}
 use Rattle.elimination.specs.Inner.{buffers, Fits, Ready, Reduction}
-use Rattle.elimination.proofs.Flat.{start-shows, reduced-shows}
+use Rattle.elimination.proofs.Flat.{start-shows, reduced-shows, steps-show}
 use Rattle.set_systems.specs.Inner.{Fresh}
 
 -- a part of a row of a matrix that lies flat, from column c on, and its last entry
@@ -36,10 +37,10 @@ loaded-whole R W g k x a size done e =
     e ∙ ap (λ n. filled g n x) (ap (λ n. n * W) done ∙ sym size) ∙ filled-whole g 0 x
 
 -- SHOWING
-pub record Loading (p R W C : ℕ) (g : ℕ → ℕ) (x u : List ℕ) (Done : List ℕ → List ℕ → Type 0) : Type 0 where
+pub record Loading (p R W C : ℕ) (g : ℕ → ℕ) (x u : List ℕ) (Done : List ℕ → List ℕ → ℕ → Type 0) : Type 0 where
   pub ready : {a : List ℕ} → a ≡ tab (length x) g → Ready p R W a u
-  pub fits : {a b v : List ℕ} → a ≡ tab (length x) g → Reduction p R W C a u b v → Fits R W b v
-  pub done : {a b v : List ℕ} → a ≡ tab (length x) g → Reduction p R W C a u b v → Done b v
+  pub fits : {a b v : List ℕ} {n : ℕ} → a ≡ tab (length x) g → Reduction p R W C a u b v n → Fits R W b v
+  pub done : {a b v : List ℕ} {n : ℕ} → a ≡ tab (length x) g → Reduction p R W C a u b v n → Done b v n
 
 module _ {p R W : ℕ} (P : Prime p) (G : ℕ → ℕ → ℕ) (small : (i j : ℕ) → i < R → j < W → G i j < p) {x u : List ℕ} (room : Fresh R W x u) where
   module _ {a : List ℕ} (loaded : a ≡ tab (length x) (flat W G)) where
@@ -65,15 +66,20 @@ module _ {p R W : ℕ} (P : Prime p) (G : ℕ → ℕ → ℕ) (small : (i j : �
     loaded-entry i j l m =
         rw whole (getD-tab (R * W) (flat W G) 0 (i * W + j) (entry-fits R W i j l m)) ∙ sym (flat-at W G i j m) ∙ sym (mod-eq-of-lt (small i j l m))
 
-    loaded-shows : (C : ℕ) → C ≤ W → {b v : List ℕ} → Reduction p R W C a u b v → Shows p R W (buffers b v) (reduced p R C G)
-    loaded-shows C l r =
-        rw (r .state) (reduced-shows p P R W (buffers a u) G
-        (start-shows p R W (buffers a u) G loaded-size (room .marks) loaded-below loaded-entry (room .unused)) C l)
+    module _ (C : ℕ) (l : C ≤ W) {b v : List ℕ} {n : ℕ} (r : Reduction p R W C a u b v n) where
+      begins : Shows p R W (buffers a u) (start p G)
+      begins = start-shows p R W (buffers a u) G loaded-size (room .marks) loaded-below loaded-entry (room .unused)
 
-  pub loading : W ≤ 64 → (C : ℕ) → C ≤ W → (Done : List ℕ → List ℕ → Type 0)
-      → ((b v : List ℕ) → Shows p R W (buffers b v) (reduced p R C G) → Done b v) → Loading p R W C (flat W G) x u Done
+      loaded-shows : Shows p R W (buffers b v) (reduced p R C G)
+      loaded-shows = rw (r .state) (reduced-shows p P R W (buffers a u) G begins C l)
+
+      loaded-steps : n ≡ steps p R C (start p G)
+      loaded-steps = r .steps ∙ steps-show p P R W (buffers a u) (start p G) begins C l
+
+  pub loading : W ≤ 64 → (C : ℕ) → C ≤ W → (Done : List ℕ → List ℕ → ℕ → Type 0)
+      → ((b v : List ℕ) (n : ℕ) → Shows p R W (buffers b v) (reduced p R C G) → n ≡ steps p R C (start p G) → Done b v n) → Loading p R W C (flat W G) x u Done
   loading narrow C l Done then = record {
     ready = λ h. record { fits = record { size = loaded-size h; marks = room .marks; narrow = narrow }; prime = P; below = loaded-below h };
     fits = λ h r. let s = loaded-shows h C l r in record { size = s .size; marks = s .marks; narrow = narrow };
-    done = λ h r. then _ _ (loaded-shows h C l r);
+    done = λ h r. then _ _ _ (loaded-shows h C l r) (loaded-steps h C l r);
   }

@@ -25,15 +25,16 @@ use Rattle.base.proofs.Sum.{unit-same, unit-other}
 use Rattle.field.specs.Dot.{at, dot}
 use Rattle.field.proofs.Dot.{dot-ext, dot-same}
 use Rattle.read_off.specs.ReadOff.{turned, fixes, Position, fixed, free}
-use Rattle.elimination.specs.Elimination.{reduced, Shows}
+use Rattle.gauss.specs.Gauss.{reduced}
+use Rattle.elimination.specs.Elimination.{Shows}
 use Rattle.elimination.specs.Inner.{buffers, Fits}
 use Rattle.read_off.proofs.Reduced.{determined}
 use Rattle.read_off.proofs.Shows.{fixes-shows}
 use Rattle.scheme.specs.Setup.{Setup, dim}
-use Rattle.scheme.specs.Sets.{holds, members, hasRow, determines}
+use Rattle.scheme.specs.Sets.{holds, members, hasRow, across, rowSteps, determines}
 use Rattle.scheme.proofs.Sets.{rows}
 use Rattle.scheme.proofs.Certificates.{row-in-hand, no-row}
-use Rattle.set_systems.specs.Inner.{SetTaken, membersOf, Walked, Lie, Fresh, beside, across, aside, lacking, BesideReduced, AcrossReduced, AsideReduced, Eliminated}
+use Rattle.set_systems.specs.Inner.{SetTaken, membersOf, Walked, Lie, Fresh, beside, aside, lacking, BesideReduced, AcrossReduced, AsideReduced, Eliminated}
 use Rattle.set_systems.proofs.Load.{row-part, row-last, Loading, loading}
 use Rattle.set_systems.proofs.Members.{prime-of, wide, few, narrow, entry-small, counted, listed, lie}
 
@@ -130,10 +131,10 @@ module _ {S : Setup} {s : ℕ} (ok : SetTaken S s) {k : ℕ} {out before : List 
         go false = v .small i (omega (arith, ap length (wide ok)))
 
     pub beside-loading : Loading (S .p) k (d + 1) d (flat (d + 1) (beside d (S .M) (take k out) xs)) x u
-        (λ b w. (r : ℕ) → r ≡ lacking k (d + 1) d (S .l) (buffers b w) → Eliminated S s xs b w r)
+        (λ b w n. (r : ℕ) → r ≡ lacking k (d + 1) d (S .l) (buffers b w) → Eliminated S s xs b w r)
     beside-loading =
         rw (listed ok W, D, counted ok W) (loading (prime-of ok) _ beside-small (rw (wide ok) at room) (omega (arith, narrow ok)) (dim S) (omega arith) _
-        (λ b w h r e. record { system = record { shows = h }; lowest = e ∙ lowest-is ok xs b w h }))
+        (λ b w n h g r e. record { system = record { shows = h }; lowest = e ∙ lowest-is ok xs b w h }))
 
   module _ {d : ℕ} (D : d ≡ dim S) (q : ℕ) {x u : List ℕ} (room : Fresh (dim S) (length (members 32 (holds s)) + 1) x u) where
     pub across-asks : ((d ≤ 16) × (length (take k out) ≤ 32) × (length x ≡ d * (length (take k out) + 1))) × Lie d (S .M) (take k out)
@@ -148,9 +149,10 @@ module _ {S : Setup} {s : ℕ} (ok : SetTaken S s) {k : ℕ} {out before : List 
         go false = unit-small (S .p) q i (prime-of ok .big)
 
     pub across-loading : Loading (S .p) d (k + 1) k (flat (length (take k out) + 1) (across d (S .M) (take k out) q)) x u (AcrossReduced S s q)
+    unfolding rowSteps
     across-loading =
         rw (listed ok W, D, counted ok W) (loading (prime-of ok) _ across-small (rw (wide ok) at room) (omega (arith, few ok)) _ (omega arith) _
-        (λ b w h. record { shows = h }))
+        (λ b w n h g. record { shows = h; steps = g }))
 
   module _ {x u : List ℕ} (room : Fresh (length (members 32 (holds s))) (dim S) x u) where
     pub aside-asks : ((dim S ≤ 16) × (length (take k out) ≤ 32) × (length x ≡ length (take k out) * dim S)) × Lie (dim S) (S .M) (take k out)
@@ -165,10 +167,10 @@ module _ {S : Setup} {s : ℕ} (ok : SetTaken S s) {k : ℕ} {out before : List 
         go true = entry-small ok (at (membersOf S s) i) (S .l + j)
         go false = entry-small ok (at (membersOf S s) i) (j - S .e)
 
-    pub aside-loading : Loading (S .p) k (dim S) (S .e) (flat (dim S) (aside (S .l) (S .e) (S .M) (take k out))) x u (AsideReduced S s)
+    pub aside-loading : Loading (S .p) k (dim S) (S .e) (flat (dim S) (aside (S .l) (S .e) (S .M) (take k out))) x u (λ b w n. AsideReduced S s b w)
     aside-loading =
         rw (listed ok W, counted ok W) (loading (prime-of ok) _ aside-small (rw (wide ok) at room) (omega (arith, narrow ok)) (S .e) (omega arith) _
-        (λ b w h. record { shows = h }))
+        (λ b w n h g. record { shows = h }))
 
 -- n rows of d + 1 entries, reduced
 pub beside-fits : {S : Setup} {s : ℕ} (ok : SetTaken S s) {xs a u : List ℕ} {n d : ℕ} → n ≡ length (members 32 (holds s)) → d ≡ dim S

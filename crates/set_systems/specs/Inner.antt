@@ -6,10 +6,9 @@
 -- Lie: the members' rows lie in the matrix
 -- Fresh: buffers for R rows of W entries, no row used
 -- beside: the members' rows with the shares beside them; d + 1 columns
--- across: the members' rows written as columns with e_q beside them, d equations for a reconstruction row; one column more than there are members
 -- aside: the members' rows with the last e columns first and the ℓ secret columns beside them, for a sweeping vector
 -- lacking: the lowest position below ℓ that the reduced rows do not determine, or ℓ
--- BesideReduced, AcrossReduced, AsideReduced: the buffers show the system, reduced
+-- BesideReduced, AcrossReduced, AsideReduced: the buffers show the system, reduced; of the rows as columns, n is the number of row steps
 -- Eliminated: the rows beside the shares are reduced, and r is the lowest position with no row
 use mathlib.Core.Path.{_≡_}
 use mathlib.Core.Bool.{not}
@@ -24,10 +23,11 @@ use Rattle.base.specs.Search.{first}
 use Rattle.base.specs.Sum.{unit}
 use Rattle.field.specs.Dot.{at}
 use Rattle.read_off.specs.ReadOff.{turned, flatFixes}
-use Rattle.elimination.specs.Elimination.{Flat, reduced, Shows}
+use Rattle.gauss.specs.Gauss.{reduced}
+use Rattle.elimination.specs.Elimination.{Flat, Shows}
 use Rattle.elimination.specs.Inner.{buffers}
 use Rattle.scheme.specs.Setup.{Setup, dim}
-use Rattle.scheme.specs.Sets.{holds, members, hasRow}
+use Rattle.scheme.specs.Sets.{holds, members, hasRow, across, rowSteps}
 use Rattle.scheme.specs.Calls.{setRules}
 
 -- MEMBERS AND BUFFERS
@@ -55,9 +55,6 @@ pub record Fresh (R W : ℕ) (a u : List ℕ) : Type 0 where
 unfoldable pub beside : ℕ → List ℕ → List ℕ → List ℕ → ℕ → ℕ → ℕ
 beside d m ms xs i j = pick (ltb j d) (entry d m (at ms i) j) (at xs i)
 
-unfoldable pub across : ℕ → List ℕ → List ℕ → ℕ → ℕ → ℕ → ℕ
-across d m ms q j i = pick (ltb i (length ms)) (entry d m (at ms i) j) (unit q j)
-
 abbrev pub aside : ℕ → ℕ → List ℕ → List ℕ → ℕ → ℕ → ℕ
 aside l e m ms = turned l e (λ i. entry (l + e) m (at ms i))
 
@@ -66,9 +63,10 @@ pub record BesideReduced (S : Setup) (s : ℕ) (xs a u : List ℕ) : Type 0 wher
   pub shows : Shows (S .p) (length (membersOf S s)) (dim S + 1) (buffers a u)
       (reduced (S .p) (length (membersOf S s)) (dim S) (beside (dim S) (S .M) (membersOf S s) xs))
 
-pub record AcrossReduced (S : Setup) (s q : ℕ) (a u : List ℕ) : Type 0 where
+pub record AcrossReduced (S : Setup) (s q : ℕ) (a u : List ℕ) (n : ℕ) : Type 0 where
   pub shows : Shows (S .p) (dim S) (length (membersOf S s) + 1) (buffers a u)
       (reduced (S .p) (dim S) (length (membersOf S s)) (across (dim S) (S .M) (membersOf S s) q))
+  pub steps : n ≡ rowSteps S (holds s) q
 
 pub record AsideReduced (S : Setup) (s : ℕ) (a u : List ℕ) : Type 0 where
   pub shows : Shows (S .p) (length (membersOf S s)) (dim S) (buffers a u)

@@ -10,9 +10,9 @@ ghost use Rattle.base.specs.Fill.{tab, laid};
 ghost use Rattle.base.specs.Matrix.{entry, flat};
 ghost use Rattle.elimination.specs.Inner.{buffers, Fits};
 ghost use Rattle.scheme.specs.Setup.{setupOf};
-ghost use Rattle.scheme.specs.Sets.{holds, members};
+ghost use Rattle.scheme.specs.Sets.{holds, members, across};
 ghost use Rattle.scheme.specs.Calls.{beyond, setRules};
-ghost use Rattle.set_systems.specs.Inner.{SetTaken, Walked, Lie, Fresh, beside, across, aside, lacking, AcrossReduced, AsideReduced, Eliminated};
+ghost use Rattle.set_systems.specs.Inner.{SetTaken, Walked, Lie, Fresh, beside, aside, lacking, AcrossReduced, AsideReduced, Eliminated};
 use scheme::Params;
 
 // MEMBERS
@@ -160,17 +160,24 @@ fn load_across(matrix: &[u16], d: usize, members: &[u16], q: usize, a: &mut [u16
     }
 }
 
-// Eliminates the d equations for a reconstruction row at position q.
-pub fn reduce_across(s: Params, matrix: &[u16], set: u32, q: usize, a: &mut [u16], used: &mut [u16])
+// Eliminates the d equations for a reconstruction row at position q, and gives the number of row steps.
+pub fn reduce_across(
+    s: Params,
+    matrix: &[u16],
+    set: u32,
+    q: usize,
+    a: &mut [u16],
+    used: &mut [u16],
+) -> u16
     requires { ⌜ SetTaken (setupOf s (now matrix)) set ⌝ }
     requires { ⌜ Fresh (s .l + s .e) (length (members 32 (holds set)) + 1) (now a) (now used) ⌝ }
-    ensures { λ _. ⌜ AcrossReduced (setupOf s (now (matrix .entry))) set q (now (a .exit)) (now (used .exit)) ⌝ }
+    ensures { λ r. ⌜ AcrossReduced (setupOf s (now (matrix .entry))) set q (now (a .exit)) (now (used .exit)) r ⌝ }
 {
     let mut members = [0u16; 32];
     let k = walk(set, &mut members);
     let d = s.dim();
     load_across(matrix, d, &members[..k], q, a);
-    elimination::reduce(a, used, d, k + 1, k, s.p);
+    elimination::reduce(a, used, d, k + 1, k, s.p) as u16
 }
 
 // THE LAST COLUMNS FIRST, for a sweeping vector

@@ -151,11 +151,17 @@ fn opened(answer: Opened, secret: u16) {
     say(b"\n");
 }
 
+fn judged_as(kind: &[u8], steps: u16) {
+    say(kind);
+    say(b", row steps");
+    number(steps);
+}
+
 fn set_judged(answer: SetJudged, found: &[u16]) {
     match answer {
-        SetJudged::Row => say(b" row"),
-        SetJudged::Vector => say(b" vector"),
-        SetJudged::Neither => say(b" neither"),
+        SetJudged::Row(k) => judged_as(b" row", k),
+        SetJudged::Vector(k) => judged_as(b" vector", k),
+        SetJudged::Neither(k) => judged_as(b" neither", k),
         SetJudged::Refused(k) => refused(k),
     }
     say(b":");
@@ -340,6 +346,7 @@ fn main() {
     open(8, &[0]);
     open(7, &[0, 2]);
     set_of_example(5);
+    set_of_example(7);
     set_of_example(1);
     set_of_example(0);
     set_of_example(8);

@@ -10,7 +10,8 @@ use borrow.Author.Tests.{eq-eqb, ne-eqb}
 use Rattle.base.specs.Search.{firstFrom, first}
 use Rattle.base.proofs.Search.{first-stop, first-step, first-end}
 use Rattle.base.proofs.Matrix.{entry-fits}
-use Rattle.elimination.specs.Elimination.{usable, pivotOf, view, flatPivot}
+use Rattle.gauss.specs.Gauss.{usable, pivotOf}
+use Rattle.elimination.specs.Elimination.{view, flatPivot}
 use Rattle.elimination.specs.Inner.{buffers}
 use Rattle.elimination.proofs.find_pivot.Statement.{statement}
 use Rattle.elimination.proofs.find_pivot.Tie as tie

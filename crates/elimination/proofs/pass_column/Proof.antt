@@ -1,7 +1,7 @@
 -- By whether the column has a pivot.
 use borrow.Author.Needs.{needs}
 use Rattle.elimination.specs.Inner.{buffers}
-use Rattle.elimination.proofs.Flat.{column-some, column-none}
+use Rattle.elimination.proofs.Flat.{column-some, column-none, counts-some, counts-none}
 use Rattle.elimination.proofs.pass_column.Statement.{statement}
 use Rattle.elimination.proofs.pass_column.Tie as tie
 
@@ -20,9 +20,13 @@ same-length-2 c = search needs
 returns : tie.Need-returns
 returns c =
     let x = c .before .before .before .before .before .before .before .before .before .before .before .before .before .args in
+    let pivot = c .before .before .before .before .before .before .before .before .find-pivot in
+    let there = c .before .before .before .before .before .before .before .if1 .taken in
+    let uses = c .before .before .before .before .use-row .ensures in
+    let s = buffers (x .a .now) (x .used .now) in
     record {
-      state = column-some (x .p) (x .rows) (x .width) (x .col) (buffers (x .a .now) (x .used .now)) _ (c .before .before .before .before .before .before .before .before .find-pivot .result) (c .before .before .before .before .before .before .before .before .find-pivot .ensures)
-          (c .before .before .before .before .before .before .before .if1 .taken) (c .before .before .before .before .use-row .ensures .state);
+      state = column-some (x .p) (x .rows) (x .width) (x .col) s _ (pivot .result) (pivot .ensures) there (uses .state);
+      steps = counts-some (x .p) (x .rows) (x .width) (x .col) s (pivot .result) _ (pivot .ensures) there (uses .steps);
     }
 
 same-length-3 : tie.Need-same-length-3
@@ -34,7 +38,12 @@ same-length-4 c = search needs
 returns-2 : tie.Need-returns-2
 returns-2 c =
     let x = c .before .before .before .before .before .before .args in
-    record { state = column-none (x .p) (x .rows) (x .width) (x .col) (buffers (x .a .now) (x .used .now)) (c .before .find-pivot .result) (c .before .find-pivot .ensures) (c .if1 .left) }
+    let pivot = c .before .find-pivot in
+    let s = buffers (x .a .now) (x .used .now) in
+    record {
+      state = column-none (x .p) (x .rows) (x .width) (x .col) s (pivot .result) (pivot .ensures) (c .if1 .left);
+      steps = counts-none (x .p) (x .rows) (x .width) (x .col) s (pivot .result) (pivot .ensures) (c .if1 .left);
+    }
 
 pub pass-column-spec : {M : Type 1} → statement M
 pass-column-spec =

@@ -1,10 +1,14 @@
--- The code scales row k by the inverse of its entry and clears the column by it, as the definition does.
-use Prim.Native.Nat.{_+_, _*_}
+-- The code scales row k by the inverse of its entry and clears the column by it, as the definition does. Scaling is no row step.
+use Prim.Native.Nat.{ℕ, _+_, _*_}
+use mathlib.Core.Path.{ap, _∙_}
+use mathlib.Core.List.{List}
 use native.Mathlib.Omega.{arith}
 use borrow.Author.Needs.{needs}
 use Rattle.base.proofs.Matrix.{row-fits, entry-fits}
+use Rattle.base.specs.Matrix.{entry}
+use Rattle.gauss.specs.Gauss.{others}
 use Rattle.row_steps.proofs.Rows.{below-scale}
-use Rattle.elimination.proofs.Flat.{used-is}
+use Rattle.elimination.proofs.Flat.{scaling-counts, used-is}
 use Rattle.elimination.proofs.use_row.Statement.{statement}
 use Rattle.elimination.proofs.use_row.Tie as tie
 
@@ -56,7 +60,8 @@ same-length-2 c = search needs
 
 returns : tie.Need-returns
 returns c =
-    let x = c .before .before .before .before .before .before .before .before .before .before .before .before .before .args in
+    let s = c .before .before .before .before .before .before .before .before .before .before .before .before .before in
+    let x = s .args in
     let inverse = c .before .before .before .before .before .before .before .before .before .inverse-by in
     let mark = c .before .before .before .before .before .before .before .before .mark in
     let scaled = c .before .before .before .before .before .before .scale-row in
@@ -64,6 +69,8 @@ returns c =
     record {
       state = used-is (x .p) (x .rows) (x .width) (x .k) (x .col) (x .a .now) (x .used .now) (scaled .last .0) _ (inverse .result) (mark .result)
           (inverse .ensures .is) (scaled .ensures) (cleared .ensures .matrix) (mark .ensures);
+      steps = cleared .ensures .steps ∙ ap (λ (a : List ℕ). others (x .rows) (x .k) (λ i. entry (x .width) a i (x .col))) (scaled .ensures)
+          ∙ scaling-counts (x .p) (x .width) (x .k) (x .col) (x .rows) (inverse .result) (x .a .now) (s .pre .1 .0 .1);
     }
 
 pub use-row-spec : {M : Type 1} → statement M

@@ -10,7 +10,8 @@ use borrow.Author.Tests.{eq-eqb, ne-eqb, le-leb, lt-leb}
 use lib.ListN.{getD}
 use Rattle.base.specs.Search.{firstFrom, first}
 use Rattle.base.proofs.Search.{first-stop, first-step, first-end}
-use Rattle.read_off.specs.ReadOff.{elsewhere, alone}
+use Rattle.gauss.specs.Gauss.{elsewhere}
+use Rattle.read_off.specs.ReadOff.{alone}
 use Rattle.read_off.proofs.alone.Statement.{statement}
 use Rattle.read_off.proofs.alone.Tie as tie
 

@@ -97,7 +97,8 @@ returns-2 c =
     let i = at-size (c .before) in
     let h = ok (accepted i) in
     let z = none (accepted i) in
-    let j = judged-row (h .0) (h .2) (zeros i) (i .size .ensures .0) (sought (c .before) .seek-row .ensures .found (c .if2 .taken)) in
+    let r = sought (c .before) .seek-row .ensures in
+    let j = judged-row (h .0) (h .2) (zeros i) (i .size .ensures .0) (r .steps) (r .found (c .if2 .taken)) in
     (rw z (j .0), buffer-judged _ _ _ _ _ _ z (j .1))
 
 dim-requires : tie.Need-dim-requires
@@ -123,7 +124,8 @@ returns-3 c =
     let i = at-size (d .before .before) in
     let h = ok (accepted i) in
     let z = none (accepted i) in
-    let j = judged-vector (h .0) (h .2) (still-zeros (d .before)) (d .dim .ensures .0) (c .before .before .before .seek-vector .ensures .found (c .if3 .taken)) in
+    let r = sought (d .before .before) .seek-row .ensures in
+    let j = judged-vector (h .0) (h .2) (still-zeros (d .before)) (d .dim .ensures .0) (r .steps) (c .before .before .before .seek-vector .ensures .found (c .if3 .taken)) in
     (rw z (j .0), buffer-judged _ _ _ _ _ _ z (j .1))
 
 same-length-4 : tie.Need-same-length-4
@@ -136,7 +138,8 @@ returns-4 c =
     let h = ok (accepted i) in
     let z = none (accepted i) in
     let n = c .before .before .before .seek-vector .ensures .none (c .if3 .left) in
-    let j = judged-neither (h .0) (h .2) (still-zeros (d .before)) (sought (d .before .before) .seek-row .ensures .none (d .before .if2 .left) .0) (n .0) in
+    let r = sought (d .before .before) .seek-row .ensures in
+    let j = judged-neither (h .0) (h .2) (still-zeros (d .before)) (r .steps) (r .none (d .before .if2 .left) .0) (n .0) in
     (rw z (j .0), buffer-judged _ _ _ _ _ _ z (rw (back (d .dim .result) (after-row (d .before .before)) _ (n .1)) (j .1)))
 
 pub judge-set-spec : {M : Type 1} → statement M

@@ -9,7 +9,7 @@ use Rattle.base.specs.Matrix.{flat, entry}
 use Rattle.base.specs.Fill.{filled}
 use Rattle.base.proofs.Matrix.{row-fits}
 use Rattle.base.proofs.Fill.{filled-none, length-laid}
-use Rattle.set_systems.specs.Inner.{across}
+use Rattle.scheme.specs.Sets.{across}
 use Rattle.set_systems.proofs.Load.{loaded-whole}
 use Rattle.set_systems.proofs.Systems.{across-row}
 use Rattle.set_systems.proofs.load_across.Statement.{statement}

@@ -1,8 +1,10 @@
--- The buffer is loaded with the members' rows as columns beside e_q, and reduced.
+-- The buffer is loaded with the members' rows as columns beside e_q, and reduced. The row steps are at most the columns times the rows.
 use mathlib.Core.Path.{sym}
 use native.Mathlib.Omega.{arith}
 use borrow.Author.Needs.{needs}
 use lib.Seq.{length-take-le}
+use Rattle.elimination.proofs.Flat.{counted-le}
+use Rattle.set_systems.proofs.Members.{room}
 use Rattle.set_systems.proofs.Systems.{across-asks, across-loading}
 use Rattle.set_systems.proofs.reduce_across.Statement.{statement}
 use Rattle.set_systems.proofs.reduce_across.Tie as tie
@@ -41,6 +43,12 @@ add-reduce c = search needs
 reduce-requires : tie.Need-reduce-requires
 reduce-requires c κs = let l = at-load c in let i = l .before in let b = start i in (across-loading (b .pre .0) (at-walk i .walk .ensures) (i .before .before .dim .ensures .0) (b .args .q) (b .pre .1) .ready (l .load-across .ensures), omega arith)
 
+cast-result : tie.Need-cast-result
+cast-result c =
+    let r = c .before .before .before .before in let i = at-load (r .before) .before in let b = start i in
+    let d = i .before .before .dim in let k = at-walk i .walk in
+    omega (arith, counted-le (r .reduce .ensures), room (b .pre .0) (k .ensures .count) (d .ensures .0) .aside)
+
 same-length : tie.Need-same-length
 same-length c = search needs
 
@@ -64,6 +72,7 @@ reduce-across-spec =
     load-across-requires
     add-reduce
     reduce-requires
+    cast-result
     same-length
     same-length-2
     returns)

@@ -15,13 +15,13 @@ use Rattle.base.specs.Choice.{pick}
 use Rattle.base.specs.Search.{first, First, found, missing}
 use Rattle.base.specs.Sum.{sum, unit}
 use Rattle.base.proofs.Choice.{either}
-use Rattle.base.proofs.Search.{first-is}
+use Rattle.base.proofs.Search.{first-is, missing-all}
 use Rattle.base.proofs.Sum.{unit-same, unit-other}
 use Rattle.field.specs.Prime.{Prime, inverseOf}
 use Rattle.field.proofs.Prime.{inverse-right}
 use Rattle.field.proofs.Congruence.{cong-by, cong-comb, mul-mod-mod, mod-mul-mod}
 use Rattle.field.specs.Dot.{dot}
-use Rattle.elimination.specs.Elimination.{State, scaled, clear, usable, pivotOf, useRow, column, gauss, start, reduced, Solution, Spanned}
+use Rattle.gauss.specs.Gauss.{State, scaled, clear, usable, pivotOf, useRow, column, gauss, start, reduced, Solution, Spanned}
 use Rattle.field.proofs.Dot.{dot-comb, dot-mod, dot-none, dot-unit}
 
 -- ONE COLUMN
@@ -33,11 +33,11 @@ module _ (p : ℕ) (P : Prime p) (k c : ℕ) (M : ℕ → ℕ → ℕ) (small : 
   unfolding scaled
   scaled-small j = mod-lt (inverseOf p (M k c) * M k j) pos
 
-  clear-pivot : (j : ℕ) → clear p k c M k j ≡ scaled p k c M j
+  pub clear-pivot : (j : ℕ) → clear p k c M k j ≡ scaled p k c M j
   unfolding clear
   clear-pivot j = rw (eq-eqb k k refl)
 
-  clear-row : (i j : ℕ) → (i ≡ k → ⊥) → clear p k c M i j ≡ (M i j + (p - M i c) * scaled p k c M j) % p
+  pub clear-row : (i j : ℕ) → (i ≡ k → ⊥) → clear p k c M i j ≡ (M i j + (p - M i c) * scaled p k c M j) % p
   unfolding clear
   clear-row i j h = rw (ne-eqb i k h)
 
@@ -69,6 +69,17 @@ module _ (p : ℕ) (P : Prime p) (k c : ℕ) (M : ℕ → ℕ → ℕ) (small : 
       by-row i (λ m. clear p k c M m c ≡ unit k m) (clear-pivot c ∙ scaled-one ∙ sym (unit-same k))
       (λ h. clear-row i c h ∙ rw scaled-one (ap (λ x. x % p) (omega (arith, small i c)) ∙ mod-self p) ∙ sym (unit-other k i (λ e. h (sym e))))
 
+  -- row k again, from the scaled one
+  pub unscale : (j : ℕ) → (M k c * scaled p k c M j) % p ≡ M k j % p
+  unfolding scaled
+  unscale j =
+      (M k c * ((inverseOf p (M k c) * M k j) % p)) % p ≡⟨ mul-mod-mod (M k c) (inverseOf p (M k c) * M k j) p ⟩
+      (M k c * (inverseOf p (M k c) * M k j)) % p ≡⟨ ap (λ x. x % p) (omega arith) ⟩
+      (M k c * inverseOf p (M k c) * M k j) % p ≡⟨ sym (mod-mul-mod (M k c * inverseOf p (M k c)) (M k j) p) ⟩
+      ((M k c * inverseOf p (M k c)) % p * M k j) % p ≡⟨ ap (λ x. (x * M k j) % p) (inverse-right p P (M k c) (omega (arith, entry)) (small k c)) ⟩
+      (1 * M k j) % p ≡⟨ ap (λ x. x % p) (omega arith) ⟩
+      M k j % p ∎
+
 -- LINEAR PREDICATES
 pub record Linear (p : ℕ) (Q : (ℕ → ℕ) → Type 0) : Type 0 where
   pub resp : (u v : ℕ → ℕ) → ((j : ℕ) → u j % p ≡ v j % p) → Q u → Q v
@@ -91,17 +102,6 @@ module _ (p : ℕ) (P : Prime p) (k c : ℕ) (M : ℕ → ℕ → ℕ) (small : 
       ∙ ap (λ x. x % p) (sym (clear-row p P k c M small entry i j h)))
       (L .comb 1 (p - M i c) (M i) (scaled p k c M) qi (q-scaled qk)))
 
-  -- row k again, from the scaled one
-  unscale : (j : ℕ) → (M k c * scaled p k c M j) % p ≡ M k j % p
-  unfolding scaled
-  unscale j =
-      (M k c * ((inverseOf p (M k c) * M k j) % p)) % p ≡⟨ mul-mod-mod (M k c) (inverseOf p (M k c) * M k j) p ⟩
-      (M k c * (inverseOf p (M k c) * M k j)) % p ≡⟨ ap (λ x. x % p) (omega arith) ⟩
-      (M k c * inverseOf p (M k c) * M k j) % p ≡⟨ sym (mod-mul-mod (M k c * inverseOf p (M k c)) (M k j) p) ⟩
-      ((M k c * inverseOf p (M k c)) % p * M k j) % p ≡⟨ ap (λ x. (x * M k j) % p) (inverse-right p P (M k c) (omega (arith, entry)) (small k c)) ⟩
-      (1 * M k j) % p ≡⟨ ap (λ x. x % p) (omega arith) ⟩
-      M k j % p ∎
-
   -- a - m t + m t = a
   restore : (a m t : ℕ) → m < p → ((a + (p - m) * t) % p + m * t) % p ≡ a % p
   restore a m t l = mod-add-mod (a + (p - m) * t) p (m * t) ∙ go (p - m) (omega arith)
@@ -112,7 +112,7 @@ module _ (p : ℕ) (P : Prime p) (k c : ℕ) (M : ℕ → ℕ → ℕ) (small : 
   back : Q (clear p k c M k) → (i : ℕ) → Q (clear p k c M i) → Q (M i)
   back qk i qi =
       by-row p P k c M small entry i (λ m. Q (M m))
-      (L .resp _ _ (λ j. rw (clear-pivot p P k c M small entry j) (ap (λ x. x % p) (omega arith) ∙ unscale j))
+      (L .resp _ _ (λ j. rw (clear-pivot p P k c M small entry j) (ap (λ x. x % p) (omega arith) ∙ unscale p P k c M small entry j))
       (L .comb (M k c) 0 (clear p k c M k) (clear p k c M k) qk qk))
       (λ h. L .resp _ _
       (λ j. rw (clear-pivot p P k c M small entry j, clear-row p P k c M small entry i j h)
@@ -291,3 +291,29 @@ same-span p P R C G v = (
 
     through : (A B : ℕ → ℕ → ℕ) → All R (Spanned p R B) A → Spanned p R A v → Spanned p R B v
     through A B h s = spanned-linear p R B .resp _ _ (λ j. sym (s .gives j)) (spanned-through p R R B A (s .by) h)
+
+-- A COLUMN WITHOUT A PIVOT
+-- is nobody's pivot column at the end
+pub never-pivot : (p : ℕ) → Prime p → (R c C : ℕ) (G : ℕ → ℕ → ℕ) → pivotOf R c (reduced p R c G) ≡ R → c < C → (i : ℕ) → reduced p R C G .used i ≡ suc c → ⊥
+unfolding reduced gauss
+never-pivot p P R c zero G miss l i = absurd (omega arith)
+never-pivot p P R c (suc C) G miss l i =
+    let before = by-place (λ e. never-pivot p P R c C G miss (omega (arith, e)) i) in
+    column-by (λ t. t .used i ≡ suc c → ⊥) p R C (reduced p R C G) (pivot before) (λ z. before)
+  where
+    Unmarked : Type 0
+    Unmarked = reduced p R C G .used i ≡ suc c → ⊥
+
+    by-place : ((c ≡ C → ⊥) → Unmarked) → Unmarked
+    by-place = either c C Unmarked (λ e u. omega (arith, shape p P R C G .pivots i c u .0))
+
+    -- a pivot of column C is one of column c only where they are the same, and that has none
+    pivot : Unmarked → (k : ℕ) → k < R → reduced p R C G .used k ≡ 0 → reduced p R C G .mat k C ≢ 0 → useRow p k C (reduced p R C G) .used i ≡ suc c → ⊥
+    pivot before k m u z = unfold useRow in go (eqb i k)
+      where
+        go : (b : Bool) → pick b (suc C) (reduced p R C G .used i) ≡ suc c → ⊥
+        go true v =
+            let e : C ≡ c = omega arith in
+            let h = missing-all (usable (reduced p R c G) c) R (unfold pivotOf in omega (arith, miss)) k m in
+            z (rw e (usable-false (reduced p R c G) c k h (rw e at u)))
+        go false v = before v

@@ -1,0 +1,2 @@
+pub mod Gauss
+pub mod Steps

@@ -1,0 +1,4 @@
+pub mod OneRow
+mod Opened
+mod PointSteps
+pub mod SetRows
