@@ -14,8 +14,8 @@ use lib.Seq.{getD-set-same, getD-set-other}
 use borrow.Author.Tests.{eqb-true, eq-eqb, ne-eqb, lt-ltb, le-ltb, ltb-true}
 use Rattle.base.specs.Choice.{pick}
 use Rattle.base.specs.Matrix.{entry, Below}
-use Rattle.base.specs.Sum.{bit}
-use Rattle.base.proofs.Choice.{either}
+use Rattle.base.specs.Sum.{sum, bit}
+use Rattle.base.proofs.Choice.{either, picked}
 use Rattle.base.proofs.Sum.{sum-step, sum-ext}
 use Rattle.base.proofs.Search.{first-ext}
 use Rattle.base.proofs.Fill.{length-laid, laid-out, laid-in}
@@ -27,7 +27,7 @@ use Rattle.row_steps.proofs.Rows.{below-add, below-scale}
 use Rattle.field.specs.Dot.{at}
 use Rattle.gauss.specs.Gauss.{State, scaled, clear, usable, pivotOf, useRow, column, gauss, start, reduced, elsewhere, others, columnSteps, steps}
 use Rattle.gauss.proofs.Steps.{column-steps-le}
-use Rattle.elimination.specs.Inner.{buffers, Reduction}
+use Rattle.elimination.specs.Inner.{buffers, otherEntry, Reduction}
 use Rattle.elimination.specs.Elimination.{clearRow, clearTo, Flat, view, flatPivot, flatUse, flatColumn, flatReduce, flatSteps, Shows}
 
 -- A COLUMN CLEARED
@@ -35,10 +35,6 @@ module _ (p W k c : ℕ) where
   pub clear-start : (a : List ℕ) → a ≡ clearTo p W k c 0 a
   unfolding clearTo
   clear-start a = refl
-
-  pub clear-step : (n : ℕ) (a : List ℕ) → clearTo p W k c (n + 1) a ≡ clearRow p W k c n (clearTo p W k c n a)
-  unfolding clearTo
-  clear-step n a = rw add-one refl
 
   -- the row is passed over, or a multiple of the pivot row is taken from it
   clear-row-by : (Z : List ℕ → Type 0) (r : ℕ) (a : List ℕ) → Z a → Z (addRow p (p - entry W a r c) (r * W) (k * W) W a) → Z (clearRow p W k c r a)
@@ -54,7 +50,7 @@ module _ (p W k c : ℕ) where
   unfolding addRow
   length-clearRow r a = clear-row-by (λ b. length b ≡ length a) r a refl (length-laid _ (r * W) W a)
 
-  length-clear : (n : ℕ) (a : List ℕ) → length (clearTo p W k c n a) ≡ length a
+  pub length-clear : (n : ℕ) (a : List ℕ) → length (clearTo p W k c n a) ≡ length a
   unfolding clearTo
   length-clear zero a = refl
   length-clear (suc n) a = length-clearRow n (clearTo p W k c n a) ∙ length-clear n a
@@ -122,12 +118,46 @@ module _ (p W k c : ℕ) where
       b = clearTo p W k c n a
 
   -- ITS SUBTRACTIONS
-  pub count-step : (r n m : ℕ) (a b : List ℕ) → c < W → b ≡ clearTo p W k c r a → n ≡ others r k (λ i. entry W a i c)
-      → m ≡ bit (elsewhere k (λ i. entry W b i c) r) → n + m ≡ others (r + 1) k (λ i. entry W a i c)
-  unfolding others elsewhere
-  count-step r n m a b l e f g =
-      ap₂ _+_ f (g ∙ ap (λ x. bit (not (eqb k r) && not (eqb x 0))) (ap (λ (z : List ℕ). entry W z r c) e ∙ clear-late r a r c (omega arith) l))
-      ∙ sym (sum-step r (λ i. bit (elsewhere k (λ x. entry W a x c) i)))
+  -- the next row, by the entry f that is read of it
+  module _ (r f : ℕ) (b : List ℕ) (l : c < W) (e : f ≡ otherEntry b (r * W) (k * W) c) where
+    own-entry : r ≢ k → f ≡ entry W b r c
+    own-entry h = e ∙ rw (ne-eqb (r * W) (k * W) (λ s. ⊎-elim (λ m. omega arith) (λ m. omega arith) (rows-apart W r k h)))
+
+    -- it is the pivot row or has no entry: it stays and does not count
+    pub row-passed : f ≡ 0 → (b ≡ clearRow p W k c r b) × (bit (elsewhere k (λ i. entry W b i c) r) ≡ 0)
+    unfolding clearRow elsewhere bit
+    row-passed z =
+        either r k _
+        (λ h. (rw (eq-eqb r k h) refl, rw (eq-eqb k r (sym h)) refl))
+        (λ h. let v = eq-eqb (entry W b r c) 0 (sym (own-entry h) ∙ z) in (rw (ne-eqb r k h, v) refl, rw (ne-eqb k r (λ s. h (sym s)), v) refl))
+
+    -- or a multiple of the pivot row is subtracted
+    pub other-row : f ≢ 0 → r ≢ k
+    other-row n h = n (e ∙ rw (eq-eqb (r * W) (k * W) (ap (λ x. x * W) h)))
+
+    pub row-cleared : f ≢ 0 → (addRow p (p - f) (r * W) (k * W) W b ≡ clearRow p W k c r b) × (bit (elsewhere k (λ i. entry W b i c) r) ≡ 1)
+    unfolding clearRow elsewhere bit
+    row-cleared n =
+        let h = other-row n in
+        let v = ne-eqb (entry W b r c) 0 (λ z. n (own-entry h ∙ z)) in
+        (rw (ne-eqb r k h, v, ← own-entry h) refl, rw (ne-eqb k r (λ s. h (sym s)), v) refl)
+
+    pub other-below : 0 < p → Below p b → f < p
+    other-below pos all = rw e (picked (λ x. x < p) (eqb (r * W) (k * W)) 0 (entry W b r c) pos (all (r * W + c)))
+
+  -- what is left after the rows before r and row r, and how many were counted
+  pub rows-below : (r : ℕ) (a b : List ℕ) → b ≡ clearTo p W k c r a → 0 < p → Below p a → Below p b
+  rows-below r a b e pos all = rw e (below-clear r a pos all)
+
+  pub rows-step : (r : ℕ) (a b m : List ℕ) → b ≡ clearTo p W k c r a → m ≡ clearRow p W k c r b → m ≡ clearTo p W k c (suc r) a
+  unfolding clearTo
+  rows-step r a b m e g = g ∙ ap (clearRow p W k c r) e
+
+  pub count-step : (r n : ℕ) (a b : List ℕ) → c < W → b ≡ clearTo p W k c r a → n ≡ others r k (λ i. entry W a i c)
+      → (m : ℕ) → bit (elsewhere k (λ i. entry W b i c) r) ≡ m → n + m ≡ others (suc r) k (λ i. entry W a i c)
+  unfolding others elsewhere sum
+  count-step r n a b l e f m g =
+      ap₂ _+_ f (sym g ∙ ap (λ x. bit (not (eqb k r) && not (eqb x 0))) (ap (λ (z : List ℕ). entry W z r c) e ∙ clear-late r a r c (omega arith) l))
 
   -- scaling the pivot row leaves the other rows, and the pivot row does not count
   pub scaling-counts : (R h : ℕ) (a : List ℕ) → c < W → others R k (λ i. entry W (scaleRow p h (k * W) W a) i c) ≡ others R k (λ i. entry W a i c)

@@ -1,22 +1,27 @@
 -- Contracts of inner functions: what the functions of the elimination ask of their lent buffers and leave in them. Records, so that a field more moves no
 -- caller.
 -- buffers: the two lent buffers, the matrix and the marks of its rows, as one
+-- otherEntry: the entry in column c of the row that starts at t, and 0 of the pivot row, which starts at q
 -- Fits: the buffers hold R rows of W entries, at most 64, and R marks
 -- Ready: besides, p is a prime and every entry is below it
--- RowCleared, ColumnCleared, RowUsed, ColumnPassed, Reduction: what clear_row, clear_column, use_row, pass_column and reduce leave, and the number n of
--- subtractions that each counts
-use Prim.Native.Nat.{ℕ, _*_, _≤_}
+-- ColumnCleared, RowUsed, ColumnPassed, Reduction: what clear_column, use_row, pass_column and reduce leave, and the number n of their subtractions
+use Prim.Native.Nat.{ℕ, _+_, _*_, _≤_}
 use mathlib.Core.Path.{_≡_}
 use mathlib.Core.List.{List}
+use lib.Dec.{eqb}
 use lib.ListN.{length}
+use Rattle.base.specs.Choice.{pick}
 use Rattle.base.specs.Matrix.{entry, Below}
-use Rattle.base.specs.Sum.{bit}
 use Rattle.field.specs.Prime.{Prime}
-use Rattle.gauss.specs.Gauss.{elsewhere, others, columnSteps}
-use Rattle.elimination.specs.Elimination.{clearRow, clearTo, Flat, view, flatUse, flatColumn, flatReduce, flatSteps}
+use Rattle.field.specs.Dot.{at}
+use Rattle.gauss.specs.Gauss.{others, columnSteps}
+use Rattle.elimination.specs.Elimination.{clearTo, Flat, view, flatUse, flatColumn, flatReduce, flatSteps}
 
 abbrev pub buffers : List ℕ → List ℕ → Flat
 buffers a u = record { mat = a; used = u }
+
+abbrev pub otherEntry : List ℕ → (t q c : ℕ) → ℕ
+otherEntry a t q c = pick (eqb t q) 0 (at a (t + c))
 
 pub record Fits (R W : ℕ) (a u : List ℕ) : Type 0 where
   pub size : length a ≡ R * W
@@ -27,10 +32,6 @@ pub record Ready (p R W : ℕ) (a u : List ℕ) : Type 0 where
   pub fits : Fits R W a u
   pub prime : Prime p
   pub below : Below p a
-
-pub record RowCleared (p W k c r : ℕ) (a b : List ℕ) (n : ℕ) : Type 0 where
-  pub matrix : b ≡ clearRow p W k c r a
-  pub steps : n ≡ bit (elsewhere k (λ i. entry W a i c) r)
 
 pub record ColumnCleared (p R W k c : ℕ) (a b : List ℕ) (n : ℕ) : Type 0 where
   pub matrix : b ≡ clearTo p W k c R a

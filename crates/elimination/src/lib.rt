@@ -1,42 +1,42 @@
 // Gauss-Jordan elimination modulo a prime on lent flat buffers. `a` holds `rows` rows of `width` entries; `used` holds, for each row, 0 or
-// one more than the column of its pivot. Each function that subtracts multiples of a pivot row gives the number of its subtractions.
+// one more than the column of its pivot. Each function that subtracts multiples of a
+// pivot row gives the number of its subtractions.
 ghost use mathlib.Core.Path.{_≡_};
 ghost use Prim.Native.Nat.{_+_, _*_, _<_, _≤_};
 ghost use lib.ListN.{length};
 ghost use Rattle.base.specs.Matrix.{Below};
 ghost use Rattle.field.specs.Prime.{Inverses};
 ghost use Rattle.elimination.specs.Elimination.{flatPivot};
-ghost use Rattle.elimination.specs.Inner.{buffers, Fits, Ready, RowCleared, ColumnCleared, RowUsed, ColumnPassed, Reduction};
+ghost use Rattle.elimination.specs.Inner.{buffers, otherEntry, Fits, Ready, ColumnCleared, RowUsed, ColumnPassed, Reduction};
 
-// Clears the entry of row r in a column by the pivot row k.
-fn clear_row(a: &mut [u16], width: usize, k: usize, col: usize, r: usize, p: u16) -> usize
-    requires { ⌜ (r * width + width ≤ length (now a)) × (k * width + width ≤ length (now a)) × (col < width) × (0 < p) ⌝ }
-    requires { ⌜ Below p (now a) ⌝ }
-    ensures { λ n. ⌜ RowCleared p width k col r (now (a .entry)) (now (a .exit)) n ⌝ }
+// The entry in a column of the row that starts at t; of the pivot row, which starts at q, 0.
+fn other_entry(a: &[u16], t: usize, q: usize, col: usize) -> u16
+    requires { ⌜ t + col < length (now a) ⌝ }
+    ensures { λ f. ⌜ f ≡ otherEntry (now (a .entry)) t q col ⌝ }
 {
-    if r == k {
+    if t == q {
         return 0;
     }
-    let t = r * width;
-    let f = a[t + col];
-    if f == 0 {
-        return 0;
-    }
-    row_steps::add_row(a, width, t, k * width, p - f, p);
-    1
+    a[t + col]
 }
 
-// Clears a column in every row but the pivot row k, by that row.
+// Clears a column in every row but the pivot row k, by that row, and counts the subtractions.
 fn clear_column(a: &mut [u16], rows: usize, width: usize, k: usize, col: usize, p: u16) -> usize
     requires { ⌜ (length (now a) ≡ rows * width) × (k < rows) × (col < width) × (0 < p) ⌝ }
     requires { ⌜ Below p (now a) ⌝ }
     ensures { λ n. ⌜ ColumnCleared p rows width k col (now (a .entry)) (now (a .exit)) n ⌝ }
 {
+    let q = k * width;
+    let end = rows * width;
     let mut steps = 0;
-    let mut r = 0;
-    while r < rows {
-        steps += clear_row(a, width, k, col, r, p);
-        r += 1;
+    let mut t = 0;
+    while t < end {
+        let f = other_entry(a, t, q, col);
+        if f != 0 {
+            steps += 1;
+            row_steps::add_row(a, width, t, q, p - f, p);
+        }
+        t += width;
     }
     steps
 }
@@ -127,11 +127,11 @@ pub fn reduce(
     ensures { λ n. ⌜ Reduction p rows width pivots (now (a .entry)) (now (used .entry)) (now (a .exit)) (now (used .exit)) n ⌝ }
 {
     let table = field::inverses();
-    let mut steps = 0;
+    let mut total = 0;
     let mut col = 0;
     while col < pivots {
-        steps += pass_column(&table, a, used, rows, width, col, p);
+        total += pass_column(&table, a, used, rows, width, col, p);
         col += 1;
     }
-    steps
+    total
 }

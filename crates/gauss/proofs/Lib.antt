@@ -1,2 +1,3 @@
+mod Examples
 pub mod Gauss
 pub mod Steps

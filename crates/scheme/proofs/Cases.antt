@@ -17,7 +17,7 @@ use Rattle.polynomial.specs.Polynomial.{point, lagrange, basis, minus}
 use Rattle.scheme.specs.Setup.{Setup}
 use Rattle.scheme.specs.Points.{pointsMatrix}
 use Rattle.scheme.specs.Dealing.{place, dealtEntry, dealt, partG, partH, pairValue, expected}
-use Rattle.scheme.specs.Sets.{holds, members, membersFrom, isRow, findRow, hasRow, isSweep, findSweep, determines}
+use Rattle.scheme.specs.Sets.{holds, members, membersFrom, isRow, findRow, hasRow, dependent, isOneRow, oneRow, isSweep, findSweep, determines}
 use Rattle.scheme.specs.Opening.{gives, opening, combine}
 use Rattle.scheme.specs.Calls.{pointsLeft, dealLeftG, dealLeftH, pairValueCall, openCall, openLeft}
 
@@ -54,7 +54,7 @@ table =
     ∷ (h 0 is 6 ∷ 6 ∷ []) ∷ (h 1 is 4 ∷ 3 ∷ []) ∷ (h 2 is 2 ∷ 0 ∷ [])
     ∷ (line (pairValueCall ex (g 0) 1) is 1 ∷ 0 ∷ 2 ∷ []) ∷ (line (pairValueCall ex (g 1) 1) is 1 ∷ 0 ∷ 1 ∷ []) ∷ (line (pairValueCall ex (g 2) 1) is 1 ∷ 0 ∷ 0 ∷ [])
     ∷ (opens 5 (0 ∷ 4 ∷ []) is 1 ∷ 0 ∷ 3 ∷ [])
-    ∷ (Option·getD (findRow ex (holds 5) 0) [] is 2 ∷ 6 ∷ [])
+    ∷ (Option·getD (oneRow ex (holds 5) 0) [] is 2 ∷ 6 ∷ [])
     ∷ (opens 7 (0 ∷ 2 ∷ 4 ∷ []) is 1 ∷ 0 ∷ 3 ∷ [])
     ∷ (opens 7 (0 ∷ 2 ∷ 5 ∷ []) is 0 ∷ 7 ∷ 0 ∷ [])
     ∷ (opens 1 (0 ∷ []) is 0 ∷ 6 ∷ 0 ∷ 0 ∷ [])
@@ -64,5 +64,5 @@ table =
     ∷ []
 
 pub cases : map (λ (c : Case). c .gives) table ≡ map (λ (c : Case). c .wanted) table
-unfolding sum bit unit every first firstFrom firstOf firstVec tab tabFrom allBelow inverseOf isField dot point lagrange basis minus pointsMatrix place dealtEntry dealt partG partH pairValue expected members membersFrom isRow findRow hasRow isSweep findSweep determines gives opening combine
+unfolding sum bit unit every first firstFrom firstOf firstVec tab tabFrom allBelow inverseOf isField dot point lagrange basis minus pointsMatrix place dealtEntry dealt partG partH pairValue expected members membersFrom isRow findRow hasRow dependent isOneRow oneRow isSweep findSweep determines gives opening combine
 cases = refl

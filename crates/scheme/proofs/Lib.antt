@@ -9,5 +9,6 @@ pub mod NoColumns
 pub mod Grows
 pub mod Cases
 mod Supplier
+mod SetRows
 pub mod PointSets
 pub mod Interpolated

@@ -16,7 +16,7 @@ use Rattle.scheme.specs.Calls.{privateCall, determinesCall}
 abbrev supplier : Setup
 supplier = record { p = 7; l = 2; e = 3; n = 2; M = 1 ∷ 0 ∷ 0 ∷ 0 ∷ 0 ∷ 6 ∷ 2 ∷ 5 ∷ 3 ∷ 4 ∷ [] }
 
-abbrev between : Setup
+abbrev pub between : Setup
 between = record { p = 7; l = 2; e = 1; n = 1; M = 1 ∷ 1 ∷ 0 ∷ [] }
 
 -- holder 0 alone is not private, holder 1 alone is

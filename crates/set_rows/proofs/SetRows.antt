@@ -1,19 +1,23 @@
--- The whole of SetRows, and document 01's example, on which all of it is met.
+-- The whole of SetRows; and its hypotheses are met by all three holders of document 01's example, of whom the last depends on the two before it.
 use mathlib.Core.Path.{_≡_, refl}
-use mathlib.Core.List.{List, [], _∷_}
-use mathlib.Core.Option.{some}
-use Prim.Native.Nat.{ℕ}
+use mathlib.Core.Bool.{true}
+use mathlib.Core.List.{[], _∷_}
 use native.Mathlib.Omega.{arith}
 use Rattle.base.specs.Sum.{sum, bit, unit}
 use Rattle.base.specs.Search.{every, first, firstFrom, firstOf, firstVec}
+use Rattle.base.specs.Fill.{tab, tabFrom}
+use Rattle.base.specs.Matrix.{allBelow}
 use Rattle.field.specs.Prime.{inverseOf}
+use Rattle.field.specs.Fields.{isField}
 use Rattle.field.specs.Dot.{dot}
 use Rattle.field.proofs.Prime.{prime-7}
-use Rattle.gauss.specs.Gauss.{scaled, clear, usable, pivotOf, useRow, column, gauss, start, elsewhere, others, columnSteps, steps}
-use Rattle.scheme.specs.Setup.{Setup, dim}
-use Rattle.scheme.specs.Sets.{holds, members, membersFrom, isRow, dependent, isOneRow, oneRow, across, rowSteps}
+use Rattle.polynomial.specs.Polynomial.{point, lagrange, basis, minus}
+use Rattle.scheme.specs.Points.{pointsMatrix}
+use Rattle.scheme.specs.PointSets.{OnPoints}
+use Rattle.scheme.specs.Sets.{holds, members, membersFrom, isRow, findRow, hasRow, determines, rowSteps}
+use Rattle.scheme.specs.Opening.{gives, opening}
 use Rattle.scheme.proofs.Cases.{ex}
-use Rattle.set_rows.specs.SetRows.{SetRows}
+use Rattle.set_rows.specs.SetRows.{ExactlyOne, Applied, SetRows}
 use Rattle.set_rows.proofs.OneRow.{exactly-one}
 use Rattle.set_rows.proofs.Opened.{opening-applied, call-applied}
 use Rattle.set_rows.proofs.PointSteps.{points-reach, steps-bounded}
@@ -27,11 +31,22 @@ set-rows = record {
   opened-call = call-applied;
 }
 
--- of all three holders the last depends on the two before it, so that it has no weight; two columns have a pivot, and each clears one other row
-example-row : oneRow ex (holds 7) 0 ≡ some (3 ∷ 5 ∷ 0 ∷ [])
-unfolding sum bit unit every first firstFrom firstOf firstVec dot members membersFrom isRow dependent isOneRow oneRow
-example-row = refl
+-- DOCUMENT 01'S EXAMPLE
+on-points : OnPoints ex
+unfolding tab tabFrom inverseOf first firstFrom point lagrange basis minus pointsMatrix
+on-points = record { matrix = refl; prime = prime-7; fits = omega arith }
 
-example-steps : rowSteps ex (holds 7) 0 ≡ 2
-unfolding sum bit unit first firstFrom inverseOf scaled clear usable pivotOf useRow column gauss start elsewhere others columnSteps steps members membersFrom across rowSteps
-example-steps = refl
+has-row : hasRow ex (holds 7) 0 ≡ true
+unfolding sum bit unit every firstOf firstVec dot members membersFrom isRow findRow hasRow
+has-row = refl
+
+the-row : ExactlyOne ex (holds 7) 0
+the-row = set-rows .exactly-one ex (holds 7) 0 prime-7 (omega arith) has-row
+
+the-steps : rowSteps ex (holds 7) 0 ≡ 2
+unfolding members membersFrom
+the-steps = set-rows .reached ex on-points (holds 7) 0
+
+the-opening : Applied ex (holds 7) 0 (0 ∷ 2 ∷ 4 ∷ []) (3 ∷ [])
+unfolding sum bit unit every first firstFrom firstOf firstVec allBelow isField dot members membersFrom isRow findRow hasRow determines gives opening
+the-opening = set-rows .opened-call ex 7 (0 ∷ 2 ∷ 4 ∷ []) (0 ∷ []) refl 0 (omega arith)

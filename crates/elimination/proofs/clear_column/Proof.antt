@@ -1,74 +1,149 @@
--- The loop clears row by row, as the definition does, entries stay below p, and a row is counted as it was before the column.
-use Prim.Native.Nat.{ℕ, _+_, _-_, _≤_}
+-- The loop clears row by row, as the definition does, where t is the start of row r; entries stay below p, and a row is counted as it was before the column.
+use Prim.Native.Nat.{ℕ, suc, _+_, _-_, _*_, _≤_, _<_}
 use mathlib.Core.Path.{_≡_, refl, sym, ap, _∙_}
+use mathlib.Core.Logic.{inl, inr, ⊎-elim}
+use native.Mathlib.Decide.{decLt}
+use native.Mathlib.Nat.{mul-le-mul-right}
 use native.Mathlib.Omega.{arith}
 use borrow.Author.Needs.{needs}
+use lib.Dec.{eqb}
 use lib.ListN.{length}
-use Rattle.base.proofs.Matrix.{row-fits}
-use Rattle.base.specs.Matrix.{entry}
+use Rattle.base.specs.Matrix.{entry, Below}
 use Rattle.base.specs.Sum.{sum}
+use Rattle.base.proofs.Choice.{either, picked}
+use Rattle.base.proofs.Matrix.{row-fits, rows-apart}
 use Rattle.gauss.specs.Gauss.{others}
 use Rattle.gauss.proofs.Steps.{others-le}
-use Rattle.elimination.specs.Elimination.{clearRow, clearTo}
-use Rattle.elimination.proofs.Flat.{clear-start, clear-step, below-clear, count-step}
+use Rattle.row_steps.specs.Rows.{addRow}
+use Rattle.elimination.specs.Elimination.{clearTo}
+use Rattle.elimination.specs.Inner.{otherEntry}
+use Rattle.elimination.proofs.Flat.{clear-start, other-row, other-below, row-passed, row-cleared, length-clear, rows-below, rows-step, count-step}
 use Rattle.elimination.proofs.clear_column.Statement.{statement}
 use Rattle.elimination.proofs.clear_column.Tie as tie
 
 abbrev Inv-loop : tie.InvT-loop
-Inv-loop a₀ rows width k col p steps₀ r₀ a steps r = (r ≤ rows) × (length a ≡ length a₀) × (a ≡ clearTo p width k col r a₀) × (steps ≡ others r k (λ i. entry width a₀ i col))
+Inv-loop a₀ rows width k col p q end steps₀ t₀ a steps t =
+    (r : ℕ) × (r ≤ rows) × (t ≡ r * width) × (a ≡ clearTo p width k col r a₀) × (steps ≡ others r k (λ i. entry width a₀ i col))
 
 abbrev μ-loop : tie.MeasureT-loop
-μ-loop a₀ rows width k col p steps₀ r₀ a steps r = rows - r
+μ-loop a₀ rows width k col p q end steps₀ t₀ a steps t = end - t
+
+-- the row that starts at t is one of R, or it is past them
+inside : (R W r t : ℕ) → t ≡ r * W → t < R * W → r < R
+inside R W r t e l = go (decLt r R)
+  where
+    go : Dec (r < R) → r < R
+    go (yes h) = h
+    go (no h) = let m : R * W ≤ r * W = mul-le-mul-right W (omega arith) in absurd (omega arith)
+
+past : (R W r t : ℕ) → t ≡ r * W → R * W ≤ t → r ≤ R → 0 < W → r ≡ R
+past R W r t e l h w = either r R (r ≡ R) (λ q. q) (λ q. absurd (omega (arith, row-fits R W r (omega (arith, q)))))
+
+-- the places, from where the row's entry is known: the loop and the start
+abbrev start : tie.After-other-entry Inv-loop μ-loop → tie.Start Inv-loop μ-loop
+start c = c .before .before .before .before .before
+
+abbrev at-loop : (c : tie.After-other-entry Inv-loop μ-loop) → tie.At-loop Inv-loop μ-loop
+at-loop c = c .before .before .before
+
+row-inside : (c : tie.After-other-entry Inv-loop μ-loop) → at-loop c .loop .inv .0 < start c .args .rows
+row-inside c = inside (start c .args .rows) (start c .args .width) (at-loop c .loop .inv .0) _ (at-loop c .loop .inv .2) (omega arith)
+
+read : (c : tie.After-other-entry Inv-loop μ-loop)
+    → c .other-entry .result ≡ otherEntry (at-loop c .loop .a) (at-loop c .loop .inv .0 * start c .args .width) (start c .args .k * start c .args .width) (start c .args .col)
+read c = c .other-entry .ensures ∙ ap (λ (z : ℕ). otherEntry (at-loop c .loop .a) z (start c .args .k * start c .args .width) (start c .args .col)) (at-loop c .loop .inv .2)
+
+below : (c : tie.After-other-entry Inv-loop μ-loop) → Below (start c .args .p) (at-loop c .loop .a)
+below c =
+    let s = start c in
+    let x = s .args in
+    let l = at-loop c .loop in
+    rows-below (x .p) (x .width) (x .k) (x .col) (l .inv .0) (x .a .now) (l .a) (l .inv .3) (s .pre .0 .3) (s .pre .1)
+
+small : (c : tie.After-other-entry Inv-loop μ-loop) → c .other-entry .result < start c .args .p
+small c =
+    let s = start c in
+    let x = s .args in
+    let l = at-loop c .loop in
+    other-below (x .p) (x .width) (x .k) (x .col) (l .inv .0) (c .other-entry .result) (l .a) (omega arith) (read c) (s .pre .0 .3) (below c)
+
+size : (c : tie.At-loop Inv-loop μ-loop) → length (c .loop .a) ≡ length (c .before .before .args .a .now)
+size c =
+    let x = c .before .before .args in
+    ap length (c .loop .inv .3) ∙ length-clear (x .p) (x .width) (x .k) (x .col) (c .loop .inv .0) (x .a .now)
+
+mul-q : tie.Need-mul-q Inv-loop μ-loop
+mul-q c = let x = c .before .args in omega (arith, row-fits (x .rows) (x .width) (x .k) (omega arith))
+
+mul-end : tie.Need-mul-end Inv-loop μ-loop
+mul-end c = search needs
 
 loop-holds : tie.Need-loop-holds Inv-loop μ-loop
 unfolding others sum
-loop-holds c = (omega arith, refl, clear-start _ _ _ _ _, refl)
+loop-holds c = (0, omega arith, omega arith, clear-start _ _ _ _ _, refl)
 
-clear-row-requires : tie.Need-clear-row-requires Inv-loop μ-loop
-clear-row-requires c κs =
-    let s = c .before .before .before .before in
-    let x = s .args in
-    let l = c .before .before .loop in (
-      omega (arith, row-fits (x .rows) (x .width) (l .r) (omega arith), row-fits (x .rows) (x .width) (x .k) (omega arith)),
-      rw (l .inv .2) (below-clear (x .p) (x .width) (x .k) (x .col) (l .r) (x .a .now) (s .pre .0 .3) (s .pre .1)),
-    )
+other-entry-requires : tie.Need-other-entry-requires Inv-loop μ-loop
+other-entry-requires c κs =
+    let x = c .before .before .before .before .args in
+    let i = c .before .before .loop .inv in
+    omega (arith, row-fits (x .rows) (x .width) (i .0) (inside (x .rows) (x .width) (i .0) _ (i .2) (omega arith)), i .2, size (c .before .before))
 
 add-steps : tie.Need-add-steps Inv-loop μ-loop
 add-steps c =
-    let x = c .before .before .before .before .before .before .before .args in
-    let l = c .before .before .before .before .before .loop in
-    omega (arith, count-step (x .p) (x .width) (x .k) (x .col) (l .r) (l .steps) (c .before .before .clear-row .result) (x .a .now) (l .a) (omega arith) (l .inv .2) (l .inv .3) (c .before .before .clear-row .ensures .steps), others-le (l .r + 1) (x .k) (λ i. entry (x .width) (x .a .now) i (x .col)))
+    let x = start (c .before) .args in
+    let i = at-loop (c .before) .loop .inv in
+    omega (arith, i .4, row-inside (c .before), others-le (i .0) (x .k) (λ j. entry (x .width) (x .a .now) j (x .col)))
 
-add-r : tie.Need-add-r Inv-loop μ-loop
-add-r c = search needs
+sub-add-row : tie.Need-sub-add-row Inv-loop μ-loop
+sub-add-row c = omega (arith, small (c .before .before))
+
+add-row-requires : tie.Need-add-row-requires Inv-loop μ-loop
+add-row-requires c κs =
+    let h = c .before .before in
+    let x = start h .args in
+    let i = at-loop h .loop .inv in
+    let there = other-row (x .p) (x .width) (x .k) (x .col) (i .0) (h .other-entry .result) (at-loop h .loop .a) (omega arith) (read h) (c .before .if1 .taken) in (
+      omega (arith, row-fits (x .rows) (x .width) (i .0) (row-inside h), row-fits (x .rows) (x .width) (x .k) (omega arith), i .2, size (at-loop h), small h),
+      (⊎-elim (λ m. inl (omega (arith, i .2))) (λ m. inr (omega (arith, i .2))) (rows-apart (x .width) (i .0) (x .k) there), below h),
+    )
+
+add-t : tie.Need-add-t Inv-loop μ-loop
+add-t c =
+    let x = start (c .before) .args in
+    omega (arith, row-fits (x .rows) (x .width) (at-loop (c .before) .loop .inv .0) (row-inside (c .before)), at-loop (c .before) .loop .inv .2)
 
 loop-less : tie.Need-loop-less Inv-loop μ-loop
-loop-less c = search needs
+loop-less c = omega arith
 
 loop-again : tie.Need-loop-again Inv-loop μ-loop
 loop-again c =
-    let x = c .before .before .before .before .before .before .before .args in
-    let l = c .before .before .before .before .before .loop in
-    let k = c .before .before .clear-row in (
-      omega arith,
-      search needs,
-      k .ensures .matrix
-          ∙ ap (clearRow (x .p) (x .width) (x .k) (x .col) (l .r)) (l .inv .2)
-          ∙ sym (clear-step (x .p) (x .width) (x .k) (x .col) (l .r) (x .a .now)),
-      count-step (x .p) (x .width) (x .k) (x .col) (l .r) (l .steps) (k .result) (x .a .now) (l .a) (omega arith) (l .inv .2) (l .inv .3) (k .ensures .steps),
-    )
+    let h = c .before in
+    let x = start h .args in
+    let l = at-loop h .loop in
+    let r = l .inv .0 in
+    let f = h .other-entry .result in
+    let step = rows-step (x .p) (x .width) (x .k) (x .col) r (x .a .now) (l .a) (c .if1 .a) (l .inv .3) in
+    let count = count-step (x .p) (x .width) (x .k) (x .col) r (l .steps) (x .a .now) (l .a) (omega arith) (l .inv .3) (l .inv .4) in
+    ⊎-elim
+    (λ w.
+    let g = row-cleared (x .p) (x .width) (x .k) (x .col) r f (l .a) (omega arith) (read h) (w .0 .taken) in
+    (suc r, row-inside h, omega (arith, l .inv .2), step (w .5 ∙ w .2 .ensures ∙ ap (λ (z : ℕ). addRow (x .p) (x .p - f) z (x .k * x .width) (x .width) (l .a)) (l .inv .2) ∙ g .0), w .6 ∙ count 1 (g .1)))
+    (λ w.
+    let g = row-passed (x .p) (x .width) (x .k) (x .col) r f (l .a) (omega arith) (read h) (w .0 .left) in
+    (suc r, row-inside h, omega (arith, l .inv .2), step (w .1 ∙ g .0), omega (arith, w .2, count 0 (g .1))))
+    (c .if1 .came)
 
 same-length : tie.Need-same-length Inv-loop μ-loop
-same-length c = search needs
+same-length c = size (c .before)
 
 returns : tie.Need-returns Inv-loop μ-loop
 returns c =
     let x = c .before .before .before .args in
-    let l = c .before .loop in
-    let e : l .r ≡ x .rows = omega arith in
+    let i = c .before .loop .inv in
+    let e = past (x .rows) (x .width) (i .0) _ (i .2) (omega arith) (i .1) (omega arith) in
     record {
-      matrix = l .inv .2 ∙ ap (λ (n : ℕ). clearTo (x .p) (x .width) (x .k) (x .col) n (x .a .now)) e;
-      steps = l .inv .3 ∙ ap (λ (n : ℕ). others n (x .k) (λ i. entry (x .width) (x .a .now) i (x .col))) e;
+      matrix = i .3 ∙ ap (λ (n : ℕ). clearTo (x .p) (x .width) (x .k) (x .col) n (x .a .now)) e;
+      steps = i .4 ∙ ap (λ (n : ℕ). others n (x .k) (λ j. entry (x .width) (x .a .now) j (x .col))) e;
     }
 
 pub clear-column-spec : {M : Type 1} → statement M
@@ -77,10 +152,14 @@ clear-column-spec =
     (tie.spec
     Inv-loop
     μ-loop
+    mul-q
+    mul-end
     loop-holds
-    clear-row-requires
+    other-entry-requires
     add-steps
-    add-r
+    sub-add-row
+    add-row-requires
+    add-t
     loop-less
     loop-again
     same-length

@@ -12,11 +12,11 @@ use Rattle.elimination.proofs.reduce.Statement.{statement}
 use Rattle.elimination.proofs.reduce.Tie as tie
 
 abbrev Inv-loop : tie.InvT-loop
-Inv-loop a₀ used₀ rows width pivots p table steps₀ col₀ a used steps col =
-    (col ≤ pivots) × (length a ≡ length a₀) × (length used ≡ length used₀) × Reduction p rows width col a₀ used₀ a used steps
+Inv-loop a₀ used₀ rows width pivots p table total₀ col₀ a used total col =
+    (col ≤ pivots) × (length a ≡ length a₀) × (length used ≡ length used₀) × Reduction p rows width col a₀ used₀ a used total
 
 abbrev μ-loop : tie.MeasureT-loop
-μ-loop a₀ used₀ rows width pivots p table steps₀ col₀ a used steps col = pivots - col
+μ-loop a₀ used₀ rows width pivots p table total₀ col₀ a used total col = pivots - col
 
 inverses-requires : tie.Need-inverses-requires Inv-loop μ-loop
 inverses-requires c κs = search needs
@@ -40,14 +40,14 @@ pass-column-requires c κs =
       (omega arith, c .before .before .before .before .before .inverses .ensures),
     )
 
-add-steps : tie.Need-add-steps Inv-loop μ-loop
-add-steps c =
+add-total : tie.Need-add-total Inv-loop μ-loop
+add-total c =
     let s = c .before .before .before .before .before .before .before .before .before .before .before .before .before in
     let x = s .args in
     let l = c .before .before .before .before .before .before .before .before .before .loop in
     let k = c .before .before .before .before .pass-column in
     let old = buffers (x .a .now) (x .used .now) in
-    let sum = counts-step (x .p) (x .rows) (x .width) (l .col) old (buffers (l .a) (l .used)) (l .steps) (k .result) (l .inv .3 .state) (l .inv .3 .steps) (k .ensures .steps) in
+    let sum = counts-step (x .p) (x .rows) (x .width) (l .col) old (buffers (l .a) (l .used)) (l .total) (k .result) (l .inv .3 .state) (l .inv .3 .steps) (k .ensures .steps) in
     let fits : (l .col + 1) * x .rows ≤ x .width * x .rows = mul-le-mul-right (x .rows) (omega (arith, s .pre .1)) in
     omega (arith, sum, counts-le (x .p) (x .rows) (x .width) (l .col + 1) old, fits, s .pre .0 .fits .size)
 
@@ -68,7 +68,7 @@ loop-again c =
       record {
         state = reduce-step (x .p) (x .rows) (x .width) (l .col) (buffers (x .a .now) (x .used .now)) (buffers (l .a) (l .used)) _ (l .inv .3 .state)
             (k .ensures .state);
-        steps = counts-step (x .p) (x .rows) (x .width) (l .col) (buffers (x .a .now) (x .used .now)) (buffers (l .a) (l .used)) (l .steps) (k .result)
+        steps = counts-step (x .p) (x .rows) (x .width) (l .col) (buffers (x .a .now) (x .used .now)) (buffers (l .a) (l .used)) (l .total) (k .result)
             (l .inv .3 .state) (l .inv .3 .steps) (k .ensures .steps);
       },
     )
@@ -84,7 +84,7 @@ returns c =
     let x = c .before .before .before .before .before .args in
     let l = c .before .loop in
     let e : l .col ≡ x .pivots = omega arith in
-    subst (λ (n : ℕ). Reduction (x .p) (x .rows) (x .width) n (x .a .now) (x .used .now) (l .a) (l .used) (l .steps)) e (l .inv .3)
+    subst (λ (n : ℕ). Reduction (x .p) (x .rows) (x .width) n (x .a .now) (x .used .now) (l .a) (l .used) (l .total)) e (l .inv .3)
 
 pub reduce-spec : {M : Type 1} → statement M
 reduce-spec =
@@ -95,7 +95,7 @@ reduce-spec =
     inverses-requires
     loop-holds
     pass-column-requires
-    add-steps
+    add-total
     add-col
     loop-less
     loop-again
