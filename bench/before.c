@@ -1,5 +1,6 @@
 /* Times dealing and the calls on sets before and after a change, in turns; bench/before builds and runs it. */
 #define _GNU_SOURCE
+#include <alloca.h>
 #include <stdint.h>
 #include <stdio.h>
 #include <stdlib.h>
@@ -99,10 +100,22 @@ static uint16_t none(int which, int t)
     return refused != 4;
 }
 
-/* One line: the median time of a call before and after, and their ratio. Above 1.05 it is taken again, and that counts. */
+/* The time of a call, with the stack so many bytes lower: where the buffers of a call happen to lie makes up to a tenth of its time. */
+static double timed(uint16_t (*call)(int, int), int which, size_t lower)
+{
+    volatile char *space = alloca(lower + 1);
+    space[0] = 0;
+    double start = now();
+    for (int k = 0; k < CALLS; k++)
+        call(which, k % TURN);
+    return (now() - start) / CALLS;
+}
+
+/* One line: the median time of a call before and after, and the median of the rounds' ratios, each round at another place of the stack. Above 1.05 it is
+ * taken again, and that counts. */
 static void line(const char *name, uint16_t (*call)(int, int))
 {
-    static double times[2][ROUNDS];
+    static double times[2][ROUNDS], ratios[ROUNDS];
     double ratio = 0;
     for (int t = 0; t < TURN; t++) {
         memset(gs, 0, sizeof gs);
@@ -113,17 +126,17 @@ static void line(const char *name, uint16_t (*call)(int, int))
         }
     }
     for (int again = 0; again < 2 && (again == 0 || ratio > 1.05); again++) {
-        for (int round = 0; round < ROUNDS; round++)
+        for (int round = 0; round < ROUNDS; round++) {
             for (int turn = 0; turn < 2; turn++) {
                 int which = (turn + round) % 2;
-                double start = now();
-                for (int k = 0; k < CALLS; k++)
-                    call(which, k % TURN);
-                times[which][round] = (now() - start) / CALLS;
+                times[which][round] = timed(call, which, (size_t)round % 64 * 16);
             }
+            ratios[round] = times[1][round] / times[0][round];
+        }
         for (int which = 0; which < 2; which++)
             qsort(times[which], ROUNDS, sizeof(double), rising);
-        ratio = times[1][ROUNDS / 2] / times[0][ROUNDS / 2];
+        qsort(ratios, ROUNDS, sizeof(double), rising);
+        ratio = ratios[ROUNDS / 2];
     }
     printf("%-13s p %5d, l %d, e %d, n %2d %9.1f %9.1f %7.3f\n", name, p, l, e, n, times[0][ROUNDS / 2], times[1][ROUNDS / 2], ratio);
     slower += ratio > 1.05;
