@@ -289,17 +289,17 @@ module _ (p R W : ℕ) where
   unfolding columnSteps flatPivot
   counts-none c s r e l = rw (← e, le-ltb r R l)
 
-  pub counts-step : (c : ℕ) (s t : Flat) (n m : ℕ) → t ≡ flatReduce p R W c s → n ≡ flatSteps p R W c s → m ≡ columnSteps R c (view W t)
+  counts-step : (c : ℕ) (s t : Flat) (n m : ℕ) → t ≡ flatReduce p R W c s → n ≡ flatSteps p R W c s → m ≡ columnSteps R c (view W t)
       → n + m ≡ flatSteps p R W (c + 1) s
   unfolding flatSteps
   counts-step c s t n m e f g = rw (add-one c, f, g, e)
 
-  pub counts-le : (c : ℕ) (s : Flat) → flatSteps p R W c s ≤ c * R
+  counts-le : (c : ℕ) (s : Flat) → flatSteps p R W c s ≤ c * R
   unfolding flatSteps
   counts-le zero s = omega arith
   counts-le (suc c) s = omega (arith, counts-le c s, column-steps-le R c (view W (flatReduce p R W c s)))
 
-  pub reduce-step : (c : ℕ) (s t u : Flat) → t ≡ flatReduce p R W c s → u ≡ flatColumn p R W c t → u ≡ flatReduce p R W (c + 1) s
+  reduce-step : (c : ℕ) (s t u : Flat) → t ≡ flatReduce p R W c s → u ≡ flatColumn p R W c t → u ≡ flatReduce p R W (c + 1) s
   unfolding flatReduce
   reduce-step c s t u e f = rw (add-one c) (f ∙ ap (flatColumn p R W c) e)
 
@@ -311,15 +311,29 @@ module _ (p R W : ℕ) where
       go true = below-clear p W (flatPivot R W c s) c R _ pos (below-scale p _ _ W (s .mat) pos all)
       go false = all
 
-  pub below-reduce : (c : ℕ) (s : Flat) → 0 < p → Below p (s .mat) → Below p (flatReduce p R W c s .mat)
+  below-reduced : (c : ℕ) (s : Flat) → 0 < p → Below p (s .mat) → Below p (flatReduce p R W c s .mat)
   unfolding flatReduce
-  below-reduce zero s pos all = all
-  below-reduce (suc c) s pos all = below-column c (flatReduce p R W c s) pos (below-reduce c s pos all)
+  below-reduced zero s pos all = all
+  below-reduced (suc c) s pos all = below-column c (flatReduce p R W c s) pos (below-reduced c s pos all)
+
+  pub below-reduce : (c : ℕ) (s t : Flat) → t ≡ flatReduce p R W c s → 0 < p → Below p (s .mat) → Below p (t .mat)
+  below-reduce c s t e pos all = rw e (below-reduced c s pos all)
 
   pub used-is : (r c : ℕ) (a u b m : List ℕ) (k w : ℕ) → k ≡ inverseOf p (entry W a r c) → b ≡ scaleRow p k (r * W) W a → m ≡ clearTo p W r c R b
       → w ≡ c + 1 → _≡_ {A = Flat} (record { mat = m; used = set u r w }) (flatUse p R W r c (record { mat = a; used = u }))
   unfolding flatUse
   used-is r c a u b m k w ek eb em ew = rw (em, eb, ek, ew, add-one c)
+
+-- one column more
+pub passes : {p R W c : ℕ} {a u b v : List ℕ} {n : ℕ} → Reduction p R W c a u b v n → (x y : List ℕ) → buffers x y ≡ flatColumn p R W c (buffers b v)
+    → (m : ℕ) → m ≡ columnSteps R c (view W (buffers b v)) → Reduction p R W (c + 1) a u x y (n + m)
+passes {p} {R} {W} {c} {a} {u} {b} {v} {n} r x y e m g = record {
+  state = reduce-step p R W c (buffers a u) (buffers b v) (buffers x y) (r .state) e;
+  steps = counts-step p R W c (buffers a u) (buffers b v) n m (r .state) (r .steps) g;
+}
+
+pub renamed : {p R W c : ℕ} {a u b v x y : List ℕ} {n m : ℕ} → Reduction p R W c a u b v n → x ≡ b → y ≡ v → m ≡ n → Reduction p R W c a u x y m
+renamed r e f g = rw (e, f, g) r
 
 pub counted-le : {p R W C : ℕ} {a u b v : List ℕ} {n : ℕ} → Reduction p R W C a u b v n → n ≤ C * R
 counted-le {p} {R} {W} {C} {a} {u} r = rw (r .steps) (counts-le p R W C (buffers a u))

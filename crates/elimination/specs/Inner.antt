@@ -4,7 +4,7 @@
 -- otherEntry: the entry in column c of the row that starts at t, and 0 of the pivot row, which starts at q
 -- Fits: the buffers hold R rows of W entries, at most 64, and R marks
 -- Ready: besides, p is a prime and every entry is below it
--- ColumnCleared, RowUsed, ColumnPassed, Reduction: what clear_column, use_row, pass_column and reduce leave, and the number n of their subtractions
+-- ColumnCleared, RowUsed, Reduction: what clear_column, use_row and reduce leave, and the number n of their subtractions
 use Prim.Native.Nat.{ℕ, _+_, _*_, _≤_}
 use mathlib.Core.Path.{_≡_}
 use mathlib.Core.List.{List}
@@ -14,8 +14,8 @@ use Rattle.base.specs.Choice.{pick}
 use Rattle.base.specs.Matrix.{entry, Below}
 use Rattle.field.specs.Prime.{Prime}
 use Rattle.field.specs.Dot.{at}
-use Rattle.gauss.specs.Gauss.{others, columnSteps}
-use Rattle.elimination.specs.Elimination.{clearTo, Flat, view, flatUse, flatColumn, flatReduce, flatSteps}
+use Rattle.gauss.specs.Gauss.{others}
+use Rattle.elimination.specs.Elimination.{clearTo, Flat, flatUse, flatReduce, flatSteps}
 
 abbrev pub buffers : List ℕ → List ℕ → Flat
 buffers a u = record { mat = a; used = u }
@@ -40,10 +40,6 @@ pub record ColumnCleared (p R W k c : ℕ) (a b : List ℕ) (n : ℕ) : Type 0 w
 pub record RowUsed (p R W k c : ℕ) (a u b v : List ℕ) (n : ℕ) : Type 0 where
   pub state : buffers b v ≡ flatUse p R W k c (buffers a u)
   pub steps : n ≡ others R k (λ i. entry W a i c)
-
-pub record ColumnPassed (p R W c : ℕ) (a u b v : List ℕ) (n : ℕ) : Type 0 where
-  pub state : buffers b v ≡ flatColumn p R W c (buffers a u)
-  pub steps : n ≡ columnSteps R c (view W (buffers a u))
 
 pub record Reduction (p R W C : ℕ) (a u b v : List ℕ) (n : ℕ) : Type 0 where
   pub state : buffers b v ≡ flatReduce p R W C (buffers a u)

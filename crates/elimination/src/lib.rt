@@ -7,7 +7,7 @@ ghost use lib.ListN.{length};
 ghost use Rattle.base.specs.Matrix.{Below};
 ghost use Rattle.field.specs.Prime.{Inverses};
 ghost use Rattle.elimination.specs.Elimination.{flatPivot};
-ghost use Rattle.elimination.specs.Inner.{buffers, otherEntry, Fits, Ready, ColumnCleared, RowUsed, ColumnPassed, Reduction};
+ghost use Rattle.elimination.specs.Inner.{buffers, otherEntry, Fits, Ready, ColumnCleared, RowUsed, Reduction};
 
 // The entry in a column of the row that starts at t; of the pivot row, which starts at q, 0.
 fn other_entry(a: &[u16], t: usize, q: usize, col: usize) -> u16
@@ -91,28 +91,6 @@ fn use_row(
     clear_column(a, rows, width, k, col, p)
 }
 
-// One column of the elimination.
-fn pass_column(
-    table: &[u16; 257],
-    a: &mut [u16],
-    used: &mut [u16],
-    rows: usize,
-    width: usize,
-    col: usize,
-    p: u16,
-) -> usize
-    requires { ⌜ Ready p rows width (now a) (now used) ⌝ }
-    requires { ⌜ col < width ⌝ }
-    requires { ⌜ Inverses (now table) ⌝ }
-    ensures { λ n. ⌜ ColumnPassed p rows width col (now (a .entry)) (now (used .entry)) (now (a .exit)) (now (used .exit)) n ⌝ }
-{
-    let k = find_pivot(a, used, rows, width, col);
-    if k < rows {
-        return use_row(table, a, used, rows, width, k, col, p);
-    }
-    0
-}
-
 // Gauss-Jordan elimination by the first `pivots` columns.
 pub fn reduce(
     a: &mut [u16],
@@ -130,7 +108,10 @@ pub fn reduce(
     let mut total = 0;
     let mut col = 0;
     while col < pivots {
-        total += pass_column(&table, a, used, rows, width, col, p);
+        let k = find_pivot(a, used, rows, width, col);
+        if k < rows {
+            total += use_row(&table, a, used, rows, width, k, col, p);
+        }
         col += 1;
     }
     total

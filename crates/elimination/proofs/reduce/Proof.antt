@@ -1,13 +1,15 @@
--- The loop passes column by column, as the definition does.
-use Prim.Native.Nat.{ℕ, _+_, _-_, _*_, _≤_}
+-- The loop passes column by column, by whether it has a pivot, and counts as the definition does.
+use Prim.Native.Nat.{ℕ, _+_, _-_, _*_, _≤_, _<_}
 use mathlib.Core.Path.{_≡_, refl, ap, _∙_, subst}
+use mathlib.Core.Logic.{⊎-elim}
+use mathlib.Core.List.{List}
 use native.Mathlib.Nat.{mul-le-mul-right}
 use native.Mathlib.Omega.{arith}
 use borrow.Author.Needs.{needs}
 use lib.ListN.{length}
 use Rattle.elimination.specs.Elimination.{Flat, flatReduce, flatSteps}
-use Rattle.elimination.specs.Inner.{buffers, Reduction}
-use Rattle.elimination.proofs.Flat.{counts-step, counts-le, reduce-step, below-reduce}
+use Rattle.elimination.specs.Inner.{buffers, Ready, RowUsed, Reduction}
+use Rattle.elimination.proofs.Flat.{column-some, column-none, counts-some, counts-none, passes, renamed, counted-le, below-reduce}
 use Rattle.elimination.proofs.reduce.Statement.{statement}
 use Rattle.elimination.proofs.reduce.Tie as tie
 
@@ -18,6 +20,50 @@ Inv-loop a₀ used₀ rows width pivots p table total₀ col₀ a used total col
 abbrev μ-loop : tie.MeasureT-loop
 μ-loop a₀ used₀ rows width pivots p table total₀ col₀ a used total col = pivots - col
 
+-- the places, from where the pivot is known: the loop, and from there the start
+abbrev at-loop : tie.After-find-pivot Inv-loop μ-loop → tie.At-loop Inv-loop μ-loop
+at-loop c = c .before .before .before .before
+
+abbrev start : tie.At-loop Inv-loop μ-loop → tie.Start Inv-loop μ-loop
+start c = c .before .before .before .before
+
+ready : (c : tie.At-loop Inv-loop μ-loop) → Ready (start c .args .p) (start c .args .rows) (start c .args .width) (c .loop .a) (c .loop .used)
+ready c =
+    let s = start c in
+    let x = s .args in
+    let i = c .loop .inv in
+    let r = s .pre .0 in
+    record {
+      fits = record { size = i .1 ∙ r .fits .size; marks = i .2 ∙ r .fits .marks; narrow = r .fits .narrow };
+      prime = r .prime;
+      below = below-reduce (x .p) (x .rows) (x .width) (c .loop .col) (buffers (x .a .now) (x .used .now)) _ (i .3 .state) (omega (arith, r .prime .big)) (r .below);
+    }
+
+-- what the next column leaves, where it has a pivot and where it has none
+module _ (c : tie.After-find-pivot Inv-loop μ-loop) where
+  abbrev Next : List ℕ → List ℕ → ℕ → Type 0
+  Next b v n = let x = start (at-loop c) .args in Reduction (x .p) (x .rows) (x .width) (at-loop c .loop .col + 1) (x .a .now) (x .used .now) b v (at-loop c .loop .total + n)
+
+  used-next : c .find-pivot .result < start (at-loop c) .args .rows → (b v : List ℕ) (n : ℕ)
+      → (let x = start (at-loop c) .args in RowUsed (x .p) (x .rows) (x .width) (c .find-pivot .result) (at-loop c .loop .col) (at-loop c .loop .a) (at-loop c .loop .used) b v n)
+      → Next b v n
+  used-next there b v n used =
+      let x = start (at-loop c) .args in
+      let l = at-loop c .loop in
+      let s = buffers (l .a) (l .used) in
+      let k = c .find-pivot in
+      passes (l .inv .3) b v (column-some (x .p) (x .rows) (x .width) (l .col) s (buffers b v) (k .result) (k .ensures) there (used .state)) n
+      (counts-some (x .p) (x .rows) (x .width) (l .col) s (k .result) n (k .ensures) there (used .steps))
+
+  same-next : start (at-loop c) .args .rows ≤ c .find-pivot .result → Next (at-loop c .loop .a) (at-loop c .loop .used) 0
+  same-next none =
+      let x = start (at-loop c) .args in
+      let l = at-loop c .loop in
+      let s = buffers (l .a) (l .used) in
+      let k = c .find-pivot in
+      passes (l .inv .3) (l .a) (l .used) (column-none (x .p) (x .rows) (x .width) (l .col) s (k .result) (k .ensures) none) 0
+      (counts-none (x .p) (x .rows) (x .width) (l .col) s (k .result) (k .ensures) none)
+
 inverses-requires : tie.Need-inverses-requires Inv-loop μ-loop
 inverses-requires c κs = search needs
 
@@ -25,31 +71,20 @@ loop-holds : tie.Need-loop-holds Inv-loop μ-loop
 unfolding flatReduce flatSteps
 loop-holds c = (omega arith, refl, refl, record { state = refl; steps = refl })
 
-pass-column-requires : tie.Need-pass-column-requires Inv-loop μ-loop
-pass-column-requires c κs =
-    let s = c .before .before .before .before .before .before .before .before in
-    let x = s .args in
-    let l = c .before .before .before .before .loop in
-    let r = s .pre .0 in (
-      record {
-        fits = record { size = l .inv .1 ∙ r .fits .size; marks = l .inv .2 ∙ r .fits .marks; narrow = r .fits .narrow };
-        prime = r .prime;
-        below = rw (ap (λ (t : Flat). t .mat) (l .inv .3 .state))
-            (below-reduce (x .p) (x .rows) (x .width) (l .col) (buffers (x .a .now) (x .used .now)) (omega (arith, r .prime .big)) (r .below));
-      },
-      (omega arith, c .before .before .before .before .before .inverses .ensures),
-    )
+find-pivot-requires : tie.Need-find-pivot-requires Inv-loop μ-loop
+find-pivot-requires c κs = (ready (c .before .before .before) .fits, omega arith)
+
+use-row-requires : tie.Need-use-row-requires Inv-loop μ-loop
+use-row-requires c κs =
+    let l = at-loop (c .before .before .before .before) in
+    (ready l, ((c .before .before .before .if1 .taken, omega arith), l .before .inverses .ensures))
 
 add-total : tie.Need-add-total Inv-loop μ-loop
 add-total c =
-    let s = c .before .before .before .before .before .before .before .before .before .before .before .before .before in
-    let x = s .args in
-    let l = c .before .before .before .before .before .before .before .before .before .loop in
-    let k = c .before .before .before .before .pass-column in
-    let old = buffers (x .a .now) (x .used .now) in
-    let sum = counts-step (x .p) (x .rows) (x .width) (l .col) old (buffers (l .a) (l .used)) (l .total) (k .result) (l .inv .3 .state) (l .inv .3 .steps) (k .ensures .steps) in
-    let fits : (l .col + 1) * x .rows ≤ x .width * x .rows = mul-le-mul-right (x .rows) (omega (arith, s .pre .1)) in
-    omega (arith, sum, counts-le (x .p) (x .rows) (x .width) (l .col + 1) old, fits, s .pre .0 .fits .size)
+    let h = c .before .before .before .before .before .before .before .before .before in
+    let x = start (at-loop h) .args in
+    let fits : (at-loop h .loop .col + 1) * x .rows ≤ x .width * x .rows = mul-le-mul-right (x .rows) (omega (arith, start (at-loop h) .pre .1)) in
+    omega (arith, counted-le (used-next h (c .before .before .before .before .before .before .before .before .if1 .taken) _ _ _ (c .before .before .before .before .use-row .ensures)), fits, start (at-loop h) .pre .0 .fits .size)
 
 add-col : tie.Need-add-col Inv-loop μ-loop
 add-col c = search needs
@@ -59,19 +94,17 @@ loop-less c = search needs
 
 loop-again : tie.Need-loop-again Inv-loop μ-loop
 loop-again c =
-    let x = c .before .before .before .before .before .before .before .before .before .before .before .before .before .args in
-    let l = c .before .before .before .before .before .before .before .before .before .loop in
-    let k = c .before .before .before .before .pass-column in (
+    let h = c .before in
+    let i = at-loop h .loop .inv in
+    ⊎-elim
+    (λ w. (
       omega arith,
-      k .kept .1 .0 ∙ l .inv .1,
-      k .kept .1 .1 .0 ∙ l .inv .2,
-      record {
-        state = reduce-step (x .p) (x .rows) (x .width) (l .col) (buffers (x .a .now) (x .used .now)) (buffers (l .a) (l .used)) _ (l .inv .3 .state)
-            (k .ensures .state);
-        steps = counts-step (x .p) (x .rows) (x .width) (l .col) (buffers (x .a .now) (x .used .now)) (buffers (l .a) (l .used)) (l .total) (k .result)
-            (l .inv .3 .state) (l .inv .3 .steps) (k .ensures .steps);
-      },
-    )
+      ap length (w .9) ∙ w .4 .kept .1 .0 ∙ i .1,
+      ap length (w .10) ∙ w .4 .kept .1 .1 .0 ∙ i .2,
+      renamed (used-next h (w .0 .taken) _ _ _ (w .4 .ensures)) (w .9) (w .10) (w .11),
+    ))
+    (λ w. (omega arith, ap length (w .1) ∙ i .1, ap length (w .2) ∙ i .2, renamed (same-next h (w .0 .left)) (w .1) (w .2) (omega (arith, w .3))))
+    (c .if1 .came)
 
 same-length : tie.Need-same-length Inv-loop μ-loop
 same-length c = search needs
@@ -81,10 +114,10 @@ same-length-2 c = search needs
 
 returns : tie.Need-returns Inv-loop μ-loop
 returns c =
-    let x = c .before .before .before .before .before .args in
-    let l = c .before .loop in
-    let e : l .col ≡ x .pivots = omega arith in
-    subst (λ (n : ℕ). Reduction (x .p) (x .rows) (x .width) n (x .a .now) (x .used .now) (l .a) (l .used) (l .total)) e (l .inv .3)
+    let l = c .before in
+    let x = start l .args in
+    let e : l .loop .col ≡ x .pivots = omega arith in
+    subst (λ (n : ℕ). Reduction (x .p) (x .rows) (x .width) n (x .a .now) (x .used .now) (l .loop .a) (l .loop .used) (l .loop .total)) e (l .loop .inv .3)
 
 pub reduce-spec : {M : Type 1} → statement M
 reduce-spec =
@@ -94,7 +127,8 @@ reduce-spec =
     μ-loop
     inverses-requires
     loop-holds
-    pass-column-requires
+    find-pivot-requires
+    use-row-requires
     add-total
     add-col
     loop-less
