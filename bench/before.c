@@ -11,6 +11,11 @@
 
 enum { TURN = 16, CALLS = 256, ROUNDS = 161 };
 
+/* Both libraries' code lies so many bytes further on. */
+#define TEXT(x) #x
+#define SHIFTED(x) __asm__(".text\n.skip " TEXT(x) ", 0x90")
+SHIFTED(SHIFT);
+
 /* The library before the change has the same functions under other names; it judges a set without giving the row steps. */
 __typeof__(mavdrusek_deal) before_mavdrusek_deal;
 __typeof__(mavdrusek_deal_all) before_mavdrusek_deal_all;
@@ -33,7 +38,6 @@ static uint16_t (*lent)[256] = entries;
 static uint8_t keys[TURN][16];
 static uint32_t sets[TURN];
 static uint16_t members, shares[TURN][32];
-static int slower;
 
 static uint16_t one(int which, int t)
 {
@@ -111,35 +115,29 @@ static double timed(uint16_t (*call)(int, int), int which, size_t lower)
     return (now() - start) / CALLS;
 }
 
-/* One line: the median time of a call before and after, and the median of the rounds' ratios, each round at another place of the stack. Above 1.05 it is
- * taken again, and that counts. */
+/* One line: the median time of a call before and after, and the median of the rounds' ratios, each round at another place of the stack. */
 static void line(const char *name, uint16_t (*call)(int, int))
 {
     static double times[2][ROUNDS], ratios[ROUNDS];
-    double ratio = 0;
     for (int t = 0; t < TURN; t++) {
         memset(gs, 0, sizeof gs);
         memset(hs, 0, sizeof hs);
         if (call(0, t) || call(1, t) || memcmp(gs[0], gs[1], sizeof gs[0]) || memcmp(hs[0], hs[1], sizeof hs[0])) {
-            printf("%s: refused, or the two give different parts or buffers\n", name);
+            fprintf(stderr, "%s: refused, or the two give different parts or buffers\n", name);
             exit(1);
         }
     }
-    for (int again = 0; again < 2 && (again == 0 || ratio > 1.05); again++) {
-        for (int round = 0; round < ROUNDS; round++) {
-            for (int turn = 0; turn < 2; turn++) {
-                int which = (turn + round) % 2;
-                times[which][round] = timed(call, which, (size_t)round % 64 * 16);
-            }
-            ratios[round] = times[1][round] / times[0][round];
+    for (int round = 0; round < ROUNDS; round++) {
+        for (int turn = 0; turn < 2; turn++) {
+            int which = (turn + round) % 2;
+            times[which][round] = timed(call, which, (size_t)round % 64 * 16);
         }
-        for (int which = 0; which < 2; which++)
-            qsort(times[which], ROUNDS, sizeof(double), rising);
-        qsort(ratios, ROUNDS, sizeof(double), rising);
-        ratio = ratios[ROUNDS / 2];
+        ratios[round] = times[1][round] / times[0][round];
     }
-    printf("%-13s p %5d, l %d, e %d, n %2d %9.1f %9.1f %7.3f\n", name, p, l, e, n, times[0][ROUNDS / 2], times[1][ROUNDS / 2], ratio);
-    slower += ratio > 1.05;
+    for (int which = 0; which < 2; which++)
+        qsort(times[which], ROUNDS, sizeof(double), rising);
+    qsort(ratios, ROUNDS, sizeof(double), rising);
+    printf("%-13s p %5d, l %d, e %d, n %2d\t%.1f\t%.1f\t%.4f\n", name, p, l, e, n, times[0][ROUNDS / 2], times[1][ROUNDS / 2], ratios[ROUNDS / 2]);
 }
 
 static void draw(uint16_t *to, int count)
@@ -198,7 +196,6 @@ int main(void)
 {
     static const uint16_t measured[][4] = {{2, 4, 3, 16}, {7, 1, 1, 3}, {251, 4, 3, 16}, {257, 4, 3, 16}, {65521, 8, 8, 32}};
     static const uint16_t wide[] = {2, 4, 8, 12, 16}, many[] = {1, 2, 3, 4, 5, 8, 12, 20, 32};
-    printf("%-35s %9s %9s %7s\n", "call", "before ns", "after ns", "ratio");
     for (size_t k = 0; k < sizeof measured / sizeof *measured; k++) {
         setup(measured[k][0], measured[k][1], measured[k][2], measured[k][3]);
         line("deal", one);
@@ -219,6 +216,5 @@ int main(void)
     }
     setup(257, 4, 3, 16);
     line("deal_key", key);
-    printf("%d above 1.05\n", slower);
-    return slower > 0;
+    return 0;
 }

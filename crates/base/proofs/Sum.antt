@@ -1,6 +1,7 @@
--- The laws of bounded sums: they add, scale, swap and split, and depend only on the summands below the bound.
-use mathlib.Core.Path.{_≡_, refl, sym, _∙_}
-use Prim.Native.Nat.{ℕ, zero, suc, _+_, _*_, _<_}
+-- The laws of bounded sums: they add, scale, swap and split, depend only on the summands below the bound, and are bounded where these are.
+use mathlib.Core.Path.{_≡_, refl, sym, ap, _∙_}
+use mathlib.Core.Bool.{Bool, true, false}
+use Prim.Native.Nat.{ℕ, zero, suc, _+_, _*_, _≤_, _<_}
 use native.Mathlib.Omega.{arith}
 use native.Mathlib.Nat.{add-zero, add-suc}
 use borrow.Author.Tests.{eq-eqb, ne-eqb}
@@ -45,6 +46,21 @@ unfolding sum
 sum-split l zero f = rw add-zero (omega arith)
 sum-split l (suc e) f = rw (add-suc l e) (omega (arith, sum-split l e f))
 
+pub sum-le : (n c : ℕ) (f : ℕ → ℕ) → ((i : ℕ) → i < n → f i ≤ c) → sum n f ≤ n * c
+unfolding sum
+sum-le zero c f h = omega arith
+sum-le (suc n) c f h = omega (arith, sum-le n c f (λ i l. h i (omega arith)), h n (omega arith))
+
+pub sum-ones : (n : ℕ) (f : ℕ → ℕ) → ((i : ℕ) → i < n → f i ≡ 1) → sum n f ≡ n
+unfolding sum
+sum-ones zero f h = refl
+sum-ones (suc n) f h = omega (arith, sum-ones n f (λ i l. h i (omega arith)), h n (omega arith))
+
+pub bit-le : (b : Bool) → bit b ≤ 1
+unfolding bit
+bit-le true = omega arith
+bit-le false = omega arith
+
 pub unit-same : (k : ℕ) → unit k k ≡ 1
 unfolding unit bit
 unit-same k = rw (eq-eqb k k refl)
@@ -67,3 +83,8 @@ sum-one (suc n) k f l h = go (λ m. sum-one n k f m (λ i m g. h i (omega arith)
 
 pub sum-unit : (n k : ℕ) (f : ℕ → ℕ) → k < n → sum n (λ i. unit k i * f i) ≡ f k
 sum-unit n k f l = sum-one n k (λ i. unit k i * f i) l (λ i m g. rw (unit-other k i g) (omega arith)) ∙ rw (unit-same k) (omega arith)
+
+-- one more at place k
+pub sum-one-more : (n k : ℕ) (f : ℕ → ℕ) → k < n → sum n (λ i. f i + unit k i) ≡ sum n f + 1
+sum-one-more n k f l =
+    sum-add n f (unit k) ∙ ap (λ z. sum n f + z) (sum-ext n _ (λ i. unit k i * 1) (λ i m. omega arith) ∙ sum-unit n k (λ i. 1) l)

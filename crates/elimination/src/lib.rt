@@ -1,6 +1,5 @@
 // Gauss-Jordan elimination modulo a prime on lent flat buffers. `a` holds `rows` rows of `width` entries; `used` holds, for each row, 0 or
-// one more than the column of its pivot. Each function that subtracts multiples of a
-// pivot row gives the number of its subtractions.
+// one more than the column of its pivot. Each function that subtracts multiples of a pivot row gives the number of its subtractions.
 ghost use mathlib.Core.Path.{_≡_};
 ghost use Prim.Native.Nat.{_+_, _*_, _<_, _≤_};
 ghost use lib.ListN.{length};
@@ -67,7 +66,7 @@ fn mark(col: usize) -> u16
     (col + 1) as u16
 }
 
-// Row k becomes the pivot row of the column.
+// Row k becomes the pivot row of the column: it is scaled, and the column is cleared by it.
 fn use_row(
     table: &[u16; 257],
     a: &mut [u16],
@@ -91,7 +90,7 @@ fn use_row(
     clear_column(a, rows, width, k, col, p)
 }
 
-// Gauss-Jordan elimination by the first `pivots` columns.
+// Gauss-Jordan elimination by the first `pivots` columns; gives the number of row steps.
 pub fn reduce(
     a: &mut [u16],
     used: &mut [u16],

@@ -7,7 +7,7 @@ use native.Mathlib.Omega.{arith}
 use native.Mathlib.Nat.{zero-mod}
 use lib.ListN.{getD}
 use Rattle.base.specs.Sum.{sum, unit}
-use Rattle.base.proofs.Sum.{sum-add, sum-scale, sum-ext, sum-none, sum-swap, sum-unit}
+use Rattle.base.proofs.Sum.{sum-add, sum-scale, sum-ext, sum-none, sum-swap, sum-unit, sum-le}
 use Rattle.field.proofs.Congruence.{cong-mul, sum-mod}
 use Rattle.field.specs.Dot.{dot, along, RowFor}
 
@@ -61,9 +61,8 @@ dot-none d u v h = sum-none d _ (λ i l. rw (h i l) (omega arith))
 
 -- a sum of d products of at most c
 pub dot-le : (d c : ℕ) (u v : ℕ → ℕ) → ((j : ℕ) → j < d → u j * v j ≤ c) → dot d u v ≤ d * c
-unfolding dot sum
-dot-le zero c u v h = omega arith
-dot-le (suc d) c u v h = omega (arith, dot-le d c u v (λ j l. h j (omega arith)), h d (omega arith))
+unfolding dot
+dot-le d c u v h = sum-le d c _ h
 
 pub dot-zero : (p d : ℕ) (u v : ℕ → ℕ) → ((j : ℕ) → j < d → u j % p ≡ 0) → dot d u v % p ≡ 0
 dot-zero p d u v h =

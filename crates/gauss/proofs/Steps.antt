@@ -14,38 +14,17 @@ use Rattle.base.specs.Search.{first, First, found, missing}
 use Rattle.base.specs.Sum.{sum, bit, unit}
 use Rattle.base.proofs.Choice.{either}
 use Rattle.base.proofs.Search.{first-is}
-use Rattle.base.proofs.Sum.{sum-add, sum-ext, sum-unit, unit-same, unit-other}
+use Rattle.base.proofs.Sum.{sum-le, sum-ones, sum-ext, sum-one-more, bit-le, unit-same, unit-other}
 use Rattle.gauss.specs.Gauss.{State, usable, pivotOf, useRow, column, gauss, elsewhere, others, columnSteps, steps}
 use Rattle.gauss.proofs.Gauss.{usable-true}
 
 unfoldable usedRows : ℕ → State → ℕ
 usedRows R s = sum R (λ i. bit (not (eqb (s .used i) 0)))
 
--- SUMS OF BITS
-bit-le : (b : Bool) → bit b ≤ 1
-unfolding bit
-bit-le true = omega arith
-bit-le false = omega arith
-
-sum-le : (n : ℕ) (f : ℕ → ℕ) → ((i : ℕ) → i < n → f i ≤ 1) → sum n f ≤ n
-unfolding sum
-sum-le zero f h = omega arith
-sum-le (suc n) f h = omega (arith, sum-le n f (λ i l. h i (omega arith)), h n (omega arith))
-
-sum-ones : (n : ℕ) (f : ℕ → ℕ) → ((i : ℕ) → i < n → f i ≡ 1) → sum n f ≡ n
-unfolding sum
-sum-ones zero f h = refl
-sum-ones (suc n) f h = omega (arith, sum-ones n f (λ i l. h i (omega arith)), h n (omega arith))
-
--- one more at place k
-sum-one-more : (n k : ℕ) (f : ℕ → ℕ) → k < n → sum n (λ i. f i + unit k i) ≡ sum n f + 1
-sum-one-more n k f l =
-    sum-add n f (unit k) ∙ ap (λ z. sum n f + z) (sum-ext n _ (λ i. unit k i * 1) (λ i m. omega arith) ∙ sum-unit n k (λ i. 1) l)
-
 -- ROWS OTHER THAN THE PIVOT'S
 pub others-le : (R k : ℕ) (v : ℕ → ℕ) → others R k v ≤ R
 unfolding others
-others-le R k v = sum-le R _ (λ j m. bit-le _)
+others-le R k v = omega (arith, sum-le R 1 (λ j. bit (elsewhere k v j)) (λ j m. bit-le _))
 
 module _ (R k : ℕ) (v : ℕ → ℕ) (l : k < R) where
   with-own : sum R (λ j. bit (elsewhere k v j) + unit k j) ≡ others R k v + 1
@@ -58,7 +37,7 @@ module _ (R k : ℕ) (v : ℕ → ℕ) (l : k < R) where
 
   others-lt : others R k v < R
   others-lt =
-      let each = sum-le R (λ j. bit (elsewhere k v j) + unit k j)
+      let each = sum-le R 1 (λ j. bit (elsewhere k v j) + unit k j)
       (λ j m. either k j _ (λ e. rw (← e) (omega (arith, own))) (λ e. omega (arith, bit-le (elsewhere k v j), unit-other k j e))) in
       omega (arith, with-own)
 
@@ -86,7 +65,7 @@ column-steps-le R c s = steps-by (λ t n. n ≤ R) 0 R c s (λ k l u. others-le 
 
 used-le : (R : ℕ) (s : State) → usedRows R s ≤ R
 unfolding usedRows
-used-le R s = sum-le R _ (λ i m. bit-le _)
+used-le R s = omega (arith, sum-le R 1 (λ i. bit (not (eqb (s .used i) 0))) (λ i m. bit-le _))
 
 used-more : (p R k c : ℕ) (s : State) → k < R → s .used k ≡ 0 → usedRows R (useRow p k c s) ≡ usedRows R s + 1
 unfolding usedRows useRow bit

@@ -16,7 +16,7 @@ use Rattle.scheme.specs.Setup.{Setup, dim}
 use Rattle.scheme.specs.Sets.{holds, members, hasRow, isOneRow, oneRow, rowSteps}
 use Rattle.scheme.specs.PointSets.{OnPoints}
 use Rattle.scheme.specs.Opening.{opening}
-use Rattle.scheme.specs.Calls.{openCall, openLeft}
+use Rattle.scheme.specs.Calls.{judgeSetCall, openCall, openLeft}
 
 pub record ExactlyOne (S : Setup) (X : ℕ → Bool) (q : ℕ) : Type 0 where
   pub row : List ℕ
@@ -33,6 +33,8 @@ pub record Applied (S : Setup) (X : ℕ → Bool) (q : ℕ) (xs vs : List ℕ) :
 pub record SetRows : Type 0 where
   -- "One row for one set"
   pub exactly-one : (S : Setup) (X : ℕ → Bool) (q : ℕ) → Prime (S .p) → q < dim S → hasRow S X q ≡ true → ExactlyOne S X q
+  -- "The judgement also gives the number of row steps": whatever the call finds, and whatever it is handed
+  pub given : (S : Setup) (s q : ℕ) (out : List ℕ) → judgeSetCall S s q out .number ≡ 0 → at (judgeSetCall S s q out .values) 1 ≡ rowSteps S (holds s) q
   -- "at most the smaller of k and d, times d − 1, for k members"
   pub bounded : (S : Setup) (X : ℕ → Bool) (q : ℕ) → rowSteps S X q ≤ min (length (members (S .n) X)) (dim S) * (dim S - 1)
   -- "and a points matrix reaches that number for every set"
