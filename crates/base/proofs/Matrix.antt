@@ -30,6 +30,17 @@ rows-apart d r s h = go (decLt r s)
     go (yes l) = inl (row-fits s d r l)
     go (no n) = inr (row-fits r d s (omega arith))
 
+-- the row that starts at t is one of R, or it is past them
+pub row-inside : (R d r t : ℕ) → t ≡ r * d → t < R * d → r < R
+row-inside R d r t e l = go (decLt r R)
+  where
+    go : Dec (r < R) → r < R
+    go (yes h) = h
+    go (no h) = let m : R * d ≤ r * d = mul-le-mul-right d (omega arith) in absurd (omega arith)
+
+pub row-past : (R d r t : ℕ) → t ≡ r * d → R * d ≤ t → r ≤ R → 0 < d → r ≡ R
+row-past R d r t e l h pos = either r R (r ≡ R) (λ q. q) (λ q. absurd (omega (arith, row-fits R d r (omega (arith, q)))))
+
 pub below-set : (p : ℕ) (a : List ℕ) (i v : ℕ) → v < p → Below p a → Below p (set a i v)
 below-set p a i v hv all k =
     either k i (getD (set a i v) k 0 < p) (λ e. go e (decLt i (length a))) (λ ne. rw (getD-set-other a i k v 0 ne) (all k))

@@ -16,7 +16,7 @@ use Rattle.base.specs.Choice.{pick}
 use Rattle.base.specs.Matrix.{entry, Below}
 use Rattle.base.specs.Sum.{sum, bit}
 use Rattle.base.proofs.Choice.{either, picked}
-use Rattle.base.proofs.Sum.{sum-step, sum-ext}
+use Rattle.base.proofs.Sum.{sum-ext}
 use Rattle.base.proofs.Search.{first-ext}
 use Rattle.base.proofs.Fill.{length-laid, laid-out, laid-in}
 use Rattle.base.proofs.Matrix.{row-fits, rows-apart}

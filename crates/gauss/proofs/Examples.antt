@@ -2,7 +2,7 @@
 -- step. With the pivot from below there would be two, with the columns from right to left none, with entries that are 0 counted two, and with the
 -- scalings three.
 use mathlib.Core.Path.{_≡_, refl}
-use mathlib.Core.List.{List, [], _∷_}
+use mathlib.Core.List.{[], _∷_}
 use Prim.Native.Nat.{ℕ}
 use lib.ListN.{getD}
 use Rattle.base.specs.Fill.{tab, tabFrom}

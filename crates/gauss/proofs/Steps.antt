@@ -1,9 +1,9 @@
 -- The number of row steps: a column with a pivot takes at most R - 1, another none, and as each pivot uses a row, at most R columns have one.
 -- usedRows: how many of the first R rows are used
 -- Spent: the n row steps are at most those of m columns with a pivot, where m is at most c and at most the number of used rows
-use mathlib.Core.Path.{_≡_, refl, sym, ap, _∙_}
+use mathlib.Core.Path.{_≡_, refl, sym, _∙_}
 use mathlib.Core.Logic.{_≢_}
-use mathlib.Core.Bool.{Bool, true, false, not}
+use mathlib.Core.Bool.{not}
 use Prim.Native.Nat.{ℕ, zero, suc, _+_, _-_, _*_, _≤_, _<_, min}
 use native.Mathlib.Omega.{arith}
 use native.Mathlib.Nat.{mul-le-mul}

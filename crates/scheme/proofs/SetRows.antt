@@ -1,11 +1,10 @@
 -- The rows of sets and their row steps (document 02, A6), computed: what the judgement of a set gives, and the row.
 -- tied: the row of holder 2 is that of holder 0 less that of holder 1, and the row of holder 3 is twice that of holder 0
 use mathlib.Core.Path.{_≡_, refl}
-use mathlib.Core.List.{List, [], _∷_}
+use mathlib.Core.List.{[], _∷_}
 use mathlib.Core.Option.{some}
 use Prim.Native.Nat.{ℕ}
 use lib.ListN.{replicate}
-use Rattle.base.specs.Choice.{pick}
 use Rattle.base.specs.Rules.{Answer}
 use Rattle.base.specs.Sum.{sum, bit, unit}
 use Rattle.base.specs.Search.{every, first, firstFrom, firstOf, firstVec}

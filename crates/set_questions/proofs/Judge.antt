@@ -16,7 +16,7 @@ use native.Mathlib.Omega.{arith}
 use lib.Dec.{leb, ltb}
 use lib.ListN.{length, take, drop, replicate, length-replicate, length-drop, getD-replicate, take-append-drop}
 use lib.Seq.{ext-getD, getD-drop, getD-take}
-use borrow.Author.Tests.{lt-ltb, le-ltb, le-leb, lt-leb}
+use borrow.Author.Tests.{lt-ltb, le-leb, lt-leb}
 use Rattle.base.specs.Choice.{pick}
 use Rattle.base.specs.Rules.{Answer, refusal}
 use Rattle.base.specs.Search.{Vec}
@@ -25,22 +25,22 @@ use Rattle.base.specs.Matrix.{entry, Below}
 use Rattle.base.specs.Sum.{unit}
 use Rattle.base.proofs.Search.{every-ext, firstVec-sound}
 use Rattle.base.proofs.Fill.{getD-tab, tab-vec, tab-ext, tab-is}
-use Rattle.field.specs.Dot.{at, RowFor}
+use Rattle.field.specs.Dot.{at}
 use Rattle.field.proofs.Congruence.{cong-two}
-use Rattle.field.proofs.Dot.{dot-ext, dot-same, dot-mod-right}
+use Rattle.field.proofs.Dot.{dot-ext, dot-mod-right}
 use Rattle.read_off.specs.ReadOff.{shown, unsolved, sweep, pivotRow, flatShown, flatUnsolved, allSolved, flatAllSolved, Beside, solvable, refuted, Sweeps}
 use Rattle.gauss.specs.Gauss.{reduced}
 use Rattle.elimination.specs.Elimination.{Flat, view, flatPivot}
 use Rattle.elimination.specs.Inner.{buffers, Fits}
-use Rattle.read_off.proofs.Reduced.{beside, solution-mod, refutes-mod, row-is, unseen-is, turned-left, turned-right, sweep-is, shown-small}
+use Rattle.read_off.proofs.Reduced.{beside, turned-left, turned-right, sweep-is, shown-small}
 use Rattle.read_off.proofs.Shows.{unsolved-shows, shown-shows}
 use Rattle.scheme.specs.Setup.{Setup, dim}
 use Rattle.scheme.specs.Answers.{isARow, isAVector, isNeither}
 use Rattle.scheme.specs.Sets.{holds, members, hasRow, isOneRow, oneRow, isSweep, hasSweep, across, rowSteps, kind, isPrivate}
 use Rattle.scheme.specs.Calls.{judgeSetRules, JudgeSetLeft, of-row, of-vector, of-neither}
 use Rattle.scheme.proofs.Calls.{set-accepts, judgeSet-ok}
-use Rattle.scheme.proofs.Sets.{rows, unit-mod, is-row, is-sweep, row-there, sweep-there}
-use Rattle.scheme.proofs.Certificates.{no-row, sweep-in-hand, no-sweep, kind-row, kind-vector, kind-neither}
+use Rattle.scheme.proofs.Sets.{rows, unit-mod, is-sweep, row-there, sweep-there}
+use Rattle.scheme.proofs.Certificates.{sweep-in-hand, no-sweep, kind-row, kind-vector, kind-neither}
 use Rattle.set_rows.proofs.OneRow.{one-is-row, found-one, shows-one, shows-none}
 use Rattle.set_systems.specs.Inner.{SetTaken, membersOf, aside, AcrossReduced, AsideReduced}
 use Rattle.set_systems.proofs.Members.{prime-of, wide, few, narrow, zeros, part-size}

@@ -9,13 +9,11 @@ use mathlib.Core.Bool.{Bool, true, false, not, _||_, false≢true}
 use mathlib.Core.List.{List, []}
 use mathlib.Core.Option.{Option, some, Option·getD}
 use Prim.Native.Nat.{ℕ, zero, suc, _+_, _-_, _*_, _%_, _≤_, _<_}
-use native.Mathlib.Nat.{mod-lt, mod-eq-of-lt, zero-mod, mod-mod}
+use native.Mathlib.Nat.{mod-lt, mod-eq-of-lt, zero-mod}
 use native.Mathlib.Omega.{arith}
 use lib.Dec.{eqb, leb}
-use lib.ListN.{length}
 use lib.Seq.{ext-getD}
 use borrow.Author.Tests.{eqb-true, eq-eqb, lt-ltb, le-ltb, leb-true, leb-false}
-use Rattle.base.specs.Choice.{pick}
 use Rattle.base.specs.Fill.{tab}
 use Rattle.base.specs.Search.{every, firstVec, Vec}
 use Rattle.base.specs.Sum.{sum, unit}

@@ -20,7 +20,6 @@ use Rattle.base.specs.Choice.{pick}
 use Rattle.base.specs.Matrix.{entry}
 use Rattle.base.specs.Rules.{refusal}
 use Rattle.base.specs.Search.{first}
-use Rattle.base.specs.Sum.{unit}
 use Rattle.field.specs.Dot.{at}
 use Rattle.read_off.specs.ReadOff.{turned, flatFixes}
 use Rattle.gauss.specs.Gauss.{reduced}

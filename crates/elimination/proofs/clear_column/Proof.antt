@@ -1,17 +1,13 @@
 -- The loop clears row by row, as the definition does, where t is the start of row r; entries stay below p, and a row is counted as it was before the column.
-use Prim.Native.Nat.{ℕ, suc, _+_, _-_, _*_, _≤_, _<_}
-use mathlib.Core.Path.{_≡_, refl, sym, ap, _∙_}
+use Prim.Native.Nat.{ℕ, suc, _-_, _*_, _≤_, _<_}
+use mathlib.Core.Path.{_≡_, refl, ap, _∙_}
 use mathlib.Core.Logic.{inl, inr, ⊎-elim}
-use native.Mathlib.Decide.{decLt}
-use native.Mathlib.Nat.{mul-le-mul-right}
 use native.Mathlib.Omega.{arith}
 use borrow.Author.Needs.{needs}
-use lib.Dec.{eqb}
 use lib.ListN.{length}
 use Rattle.base.specs.Matrix.{entry, Below}
 use Rattle.base.specs.Sum.{sum}
-use Rattle.base.proofs.Choice.{either, picked}
-use Rattle.base.proofs.Matrix.{row-fits, rows-apart}
+use Rattle.base.proofs.Matrix.{row-fits, rows-apart, row-inside, row-past}
 use Rattle.gauss.specs.Gauss.{others}
 use Rattle.gauss.proofs.Steps.{others-le}
 use Rattle.row_steps.specs.Rows.{addRow}
@@ -28,17 +24,6 @@ Inv-loop a₀ rows width k col p q end steps₀ t₀ a steps t =
 abbrev μ-loop : tie.MeasureT-loop
 μ-loop a₀ rows width k col p q end steps₀ t₀ a steps t = end - t
 
--- the row that starts at t is one of R, or it is past them
-inside : (R W r t : ℕ) → t ≡ r * W → t < R * W → r < R
-inside R W r t e l = go (decLt r R)
-  where
-    go : Dec (r < R) → r < R
-    go (yes h) = h
-    go (no h) = let m : R * W ≤ r * W = mul-le-mul-right W (omega arith) in absurd (omega arith)
-
-past : (R W r t : ℕ) → t ≡ r * W → R * W ≤ t → r ≤ R → 0 < W → r ≡ R
-past R W r t e l h w = either r R (r ≡ R) (λ q. q) (λ q. absurd (omega (arith, row-fits R W r (omega (arith, q)))))
-
 -- the places, from where the row's entry is known: the loop and the start
 abbrev start : tie.After-other-entry Inv-loop μ-loop → tie.Start Inv-loop μ-loop
 start c = c .before .before .before .before .before
@@ -46,8 +31,8 @@ start c = c .before .before .before .before .before
 abbrev at-loop : (c : tie.After-other-entry Inv-loop μ-loop) → tie.At-loop Inv-loop μ-loop
 at-loop c = c .before .before .before
 
-row-inside : (c : tie.After-other-entry Inv-loop μ-loop) → at-loop c .loop .inv .0 < start c .args .rows
-row-inside c = inside (start c .args .rows) (start c .args .width) (at-loop c .loop .inv .0) _ (at-loop c .loop .inv .2) (omega arith)
+is-inside : (c : tie.After-other-entry Inv-loop μ-loop) → at-loop c .loop .inv .0 < start c .args .rows
+is-inside c = row-inside (start c .args .rows) (start c .args .width) (at-loop c .loop .inv .0) _ (at-loop c .loop .inv .2) (omega arith)
 
 read : (c : tie.After-other-entry Inv-loop μ-loop)
     → c .other-entry .result ≡ otherEntry (at-loop c .loop .a) (at-loop c .loop .inv .0 * start c .args .width) (start c .args .k * start c .args .width) (start c .args .col)
@@ -86,13 +71,13 @@ other-entry-requires : tie.Need-other-entry-requires Inv-loop μ-loop
 other-entry-requires c κs =
     let x = c .before .before .before .before .args in
     let i = c .before .before .loop .inv in
-    omega (arith, row-fits (x .rows) (x .width) (i .0) (inside (x .rows) (x .width) (i .0) _ (i .2) (omega arith)), i .2, size (c .before .before))
+    omega (arith, row-fits (x .rows) (x .width) (i .0) (row-inside (x .rows) (x .width) (i .0) _ (i .2) (omega arith)), i .2, size (c .before .before))
 
 add-steps : tie.Need-add-steps Inv-loop μ-loop
 add-steps c =
     let x = start (c .before) .args in
     let i = at-loop (c .before) .loop .inv in
-    omega (arith, i .4, row-inside (c .before), others-le (i .0) (x .k) (λ j. entry (x .width) (x .a .now) j (x .col)))
+    omega (arith, i .4, is-inside (c .before), others-le (i .0) (x .k) (λ j. entry (x .width) (x .a .now) j (x .col)))
 
 sub-add-row : tie.Need-sub-add-row Inv-loop μ-loop
 sub-add-row c = omega (arith, small (c .before .before))
@@ -103,14 +88,14 @@ add-row-requires c κs =
     let x = start h .args in
     let i = at-loop h .loop .inv in
     let there = other-row (x .p) (x .width) (x .k) (x .col) (i .0) (h .other-entry .result) (at-loop h .loop .a) (omega arith) (read h) (c .before .if1 .taken) in (
-      omega (arith, row-fits (x .rows) (x .width) (i .0) (row-inside h), row-fits (x .rows) (x .width) (x .k) (omega arith), i .2, size (at-loop h), small h),
+      omega (arith, row-fits (x .rows) (x .width) (i .0) (is-inside h), row-fits (x .rows) (x .width) (x .k) (omega arith), i .2, size (at-loop h), small h),
       (⊎-elim (λ m. inl (omega (arith, i .2))) (λ m. inr (omega (arith, i .2))) (rows-apart (x .width) (i .0) (x .k) there), below h),
     )
 
 add-t : tie.Need-add-t Inv-loop μ-loop
 add-t c =
     let x = start (c .before) .args in
-    omega (arith, row-fits (x .rows) (x .width) (at-loop (c .before) .loop .inv .0) (row-inside (c .before)), at-loop (c .before) .loop .inv .2)
+    omega (arith, row-fits (x .rows) (x .width) (at-loop (c .before) .loop .inv .0) (is-inside (c .before)), at-loop (c .before) .loop .inv .2)
 
 loop-less : tie.Need-loop-less Inv-loop μ-loop
 loop-less c = omega arith
@@ -127,10 +112,10 @@ loop-again c =
     ⊎-elim
     (λ w.
     let g = row-cleared (x .p) (x .width) (x .k) (x .col) r f (l .a) (omega arith) (read h) (w .0 .taken) in
-    (suc r, row-inside h, omega (arith, l .inv .2), step (w .5 ∙ w .2 .ensures ∙ ap (λ (z : ℕ). addRow (x .p) (x .p - f) z (x .k * x .width) (x .width) (l .a)) (l .inv .2) ∙ g .0), w .6 ∙ count 1 (g .1)))
+    (suc r, is-inside h, omega (arith, l .inv .2), step (w .5 ∙ w .2 .ensures ∙ ap (λ (z : ℕ). addRow (x .p) (x .p - f) z (x .k * x .width) (x .width) (l .a)) (l .inv .2) ∙ g .0), w .6 ∙ count 1 (g .1)))
     (λ w.
     let g = row-passed (x .p) (x .width) (x .k) (x .col) r f (l .a) (omega arith) (read h) (w .0 .left) in
-    (suc r, row-inside h, omega (arith, l .inv .2), step (w .1 ∙ g .0), omega (arith, w .2, count 0 (g .1))))
+    (suc r, is-inside h, omega (arith, l .inv .2), step (w .1 ∙ g .0), omega (arith, w .2, count 0 (g .1))))
     (c .if1 .came)
 
 same-length : tie.Need-same-length Inv-loop μ-loop
@@ -140,7 +125,7 @@ returns : tie.Need-returns Inv-loop μ-loop
 returns c =
     let x = c .before .before .before .args in
     let i = c .before .loop .inv in
-    let e = past (x .rows) (x .width) (i .0) _ (i .2) (omega arith) (i .1) (omega arith) in
+    let e = row-past (x .rows) (x .width) (i .0) _ (i .2) (omega arith) (i .1) (omega arith) in
     record {
       matrix = i .3 ∙ ap (λ (n : ℕ). clearTo (x .p) (x .width) (x .k) (x .col) n (x .a .now)) e;
       steps = i .4 ∙ ap (λ (n : ℕ). others n (x .k) (λ j. entry (x .width) (x .a .now) j (x .col))) e;

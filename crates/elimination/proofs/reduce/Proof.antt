@@ -7,7 +7,7 @@ use native.Mathlib.Nat.{mul-le-mul-right}
 use native.Mathlib.Omega.{arith}
 use borrow.Author.Needs.{needs}
 use lib.ListN.{length}
-use Rattle.elimination.specs.Elimination.{Flat, flatReduce, flatSteps}
+use Rattle.elimination.specs.Elimination.{flatReduce, flatSteps}
 use Rattle.elimination.specs.Inner.{buffers, Ready, RowUsed, Reduction}
 use Rattle.elimination.proofs.Flat.{column-some, column-none, counts-some, counts-none, passes, renamed, counted-le, below-reduce}
 use Rattle.elimination.proofs.reduce.Statement.{statement}
