@@ -1,4 +1,4 @@
--- The records of document 01 ("Records"). A record is a list of words, of which word 0 is its mark; all that is said of one is its layout, and the
+-- The records of document 01 ("Records") and of document 02, A7. A record is a list of words, of which word 0 is its mark; all that is said of one is its layout, and the
 -- calls that write and read it follow from that. A writer's table has rising numbers, "in a call the lowest number that applies is given". A reader's
 -- has first what the caller lends, the numbers of a setup and the lengths of buffers, and then the record as in a file. SU stands apart: it holds
 -- the numbers that the others are lent.
@@ -7,13 +7,15 @@
 -- allWords: a record as one list of words
 -- writeRules, writeCall, writeLeft: the table, the answer and the buffer of the call that writes a record
 -- standingRules: the rules of a record as it stands in a file; readRules, readCall: the table and the answer of the call that reads it
--- markSU .. markSH: the marks, low byte first
+-- markSU .. markPF: the marks, low byte first
 -- xWords, xSize, xAt, xFaults, xLayout, xValues: of record x its words, its length in bytes, its fields as they stand at the start of a part of a file
 -- (what follows the record is not looked at), the refusals that they give, its layout, and its fields as the values of an answer
 -- writeXRules .. readXLeft: the calls of record x; readMatrix is the second reader of SU
 -- dueSetup: the rules of SU up to its length
 -- DealingParts, parts: all the fields of DL
 -- dealingLent: the buffers lent for its g and h
+-- MappedParts, mappedParts: all the fields of DF; mappedLent: the buffers lent for its g, h and φ
+-- pairLayoutOf: the layout that PV and PF share, under a mark
 -- paperSetupRead .. paperShareRead: document 01's number and values for each case of a reader's answer
 use mathlib.Core.Bool.{not, _&&_}
 use mathlib.Core.List.{List, [], _∷_, _++_}
@@ -98,6 +100,13 @@ markVD = 0x4456
 
 abbrev pub markSH : ℕ
 markSH = 0x4853
+
+-- "Marks DF (44 46) and PF (50 46)"
+abbrev pub markDF : ℕ
+markDF = 0x4644
+
+abbrev pub markPF : ℕ
+markPF = 0x4650
 
 -- SU: "p, ℓ, e, n, then M by rows"
 abbrev pub setupWords : Setup → List ℕ
@@ -202,6 +211,61 @@ readDealingLeftG S s g h = leftBy (refusal (readDealingRules S s (length g) (len
 abbrev pub readDealingLeftH : Setup → List ℕ → List ℕ → List ℕ → List ℕ
 readDealingLeftH S s g h = leftBy (refusal (readDealingRules S s (length g) (length h))) (dealingH S s) h
 
+-- DF: "with the fields of DL and PV, carry the second dealing; DF ends with φ by rows"
+pub record MappedParts : Type 0 where
+  pub numbers : DealingRecord
+  pub g : List ℕ
+  pub h : List ℕ
+  pub phi : List ℕ
+
+abbrev pub mappedSize : Setup → ℕ
+mappedSize S = dealingSize S + 2 * (S .l * S .l)
+
+abbrev pub mappedPhi : Setup → List ℕ → List ℕ
+mappedPhi S s = wordsAt s (3 + 2 * dim S) (S .l * S .l)
+
+abbrev pub mappedLayout : Layout MappedParts
+mappedLayout =
+    record {
+      mark = markDF;
+      size = mappedSize;
+      words = λ x. x .numbers .dealing ∷ x .numbers .holder ∷ x .g ++ x .h ++ x .phi;
+      at = λ S s. record { numbers = dealingAt s; g = dealingG S s; h = dealingH S s; phi = mappedPhi S s };
+      lists = λ S x. elements (x .g) (dim S) ∷ elements (x .h) (dim S) ∷ elements (x .phi) (S .l * S .l) ∷ [];
+      faults = λ S x. dealingFaults S (x .numbers);
+    }
+
+abbrev pub mappedParts : DealingRecord → List ℕ → List ℕ → List ℕ → MappedParts
+mappedParts x g h phi = record { numbers = x; g = g; h = h; phi = phi }
+
+abbrev pub mappedWords : DealingRecord → List ℕ → List ℕ → List ℕ → List ℕ
+mappedWords x g h phi = allWords mappedLayout (mappedParts x g h phi)
+
+abbrev pub writeMappedCall : Setup → DealingRecord → List ℕ → List ℕ → List ℕ → List ℕ → Answer
+writeMappedCall S x g h phi out = writeCall mappedLayout S (mappedParts x g h phi) out
+
+abbrev pub writeMappedLeft : Setup → DealingRecord → List ℕ → List ℕ → List ℕ → List ℕ → List ℕ
+writeMappedLeft S x g h phi out = writeLeft mappedLayout S (mappedParts x g h phi) out
+
+-- its dealing number and holder, with g, h and φ into lent buffers of d, d and ℓ * ℓ entries
+abbrev pub mappedLent : Setup → ℕ → ℕ → ℕ → List Lent
+mappedLent S i j k = room i (dim S) ∷ room j (dim S) ∷ room k (S .l * S .l) ∷ []
+
+abbrev pub readMappedRules : Setup → List ℕ → ℕ → ℕ → ℕ → List Rule
+readMappedRules S s i j k = readRules mappedLayout S (mappedLent S i j k) s
+
+abbrev pub readMappedCall : Setup → List ℕ → List ℕ → List ℕ → List ℕ → Answer
+readMappedCall S s g h phi = readCall mappedLayout S (mappedLent S (length g) (length h) (length phi)) s (wordAt s 1 ∷ wordAt s 2 ∷ [])
+
+abbrev pub readMappedLeftG : Setup → List ℕ → List ℕ → List ℕ → List ℕ → List ℕ
+readMappedLeftG S s g h phi = leftBy (refusal (readMappedRules S s (length g) (length h) (length phi))) (dealingG S s) g
+
+abbrev pub readMappedLeftH : Setup → List ℕ → List ℕ → List ℕ → List ℕ → List ℕ
+readMappedLeftH S s g h phi = leftBy (refusal (readMappedRules S s (length g) (length h) (length phi))) (dealingH S s) h
+
+abbrev pub readMappedLeftPhi : Setup → List ℕ → List ℕ → List ℕ → List ℕ → List ℕ
+readMappedLeftPhi S s g h phi = leftBy (refusal (readMappedRules S s (length g) (length h) (length phi))) (mappedPhi S s) phi
+
 -- PV: "dealing number, from, to, value"
 abbrev pub pairSize : ℕ
 pairSize = 10
@@ -217,9 +281,12 @@ abbrev pub pairFaults : Setup → PairRecord → List Rule
 pairFaults S x =
     (4 when leb (S .p) (x .value)) ∷ (5 when leb (S .n) (x .sender)) ∷ (5 when leb (S .n) (x .receiver)) ∷ (9 when eqb (x .dealing) 0) ∷ []
 
+abbrev pub pairLayoutOf : ℕ → Layout PairRecord
+pairLayoutOf mark =
+    record { mark = mark; size = λ S. pairSize; words = pairValues; at = λ S s. pairAt s; lists = λ S x. []; faults = pairFaults }
+
 abbrev pub pairLayout : Layout PairRecord
-pairLayout =
-    record { mark = markPV; size = λ S. pairSize; words = pairValues; at = λ S s. pairAt s; lists = λ S x. []; faults = pairFaults }
+pairLayout = pairLayoutOf markPV
 
 abbrev pub pairWords : PairRecord → List ℕ
 pairWords x = allWords pairLayout x
@@ -232,6 +299,22 @@ writePairLeft S x out = writeLeft pairLayout S x out
 
 abbrev pub readPairCall : Setup → List ℕ → Answer
 readPairCall S s = readCall pairLayout S [] s (pairValues (pairAt s))
+
+-- PF: PV's fields
+abbrev pub mappedPairLayout : Layout PairRecord
+mappedPairLayout = pairLayoutOf markPF
+
+abbrev pub mappedPairWords : PairRecord → List ℕ
+mappedPairWords x = allWords mappedPairLayout x
+
+abbrev pub writeMappedPairCall : Setup → PairRecord → List ℕ → Answer
+writeMappedPairCall S x out = writeCall mappedPairLayout S x out
+
+abbrev pub writeMappedPairLeft : Setup → PairRecord → List ℕ → List ℕ
+writeMappedPairLeft S x out = writeLeft mappedPairLayout S x out
+
+abbrev pub readMappedPairCall : Setup → List ℕ → Answer
+readMappedPairCall S s = readCall mappedPairLayout S [] s (pairValues (pairAt s))
 
 -- VD: "dealing number, holder, 1 accept or 0 reject"
 abbrev pub verdictSize : ℕ

@@ -26,7 +26,11 @@ pub const MARK_VD: u16 = 0x4456;
 
 pub const MARK_SH: u16 = 0x4853;
 
-// How many bytes SU and DL have before their lists.
+pub const MARK_DF: u16 = 0x4644;
+
+pub const MARK_PF: u16 = 0x4650;
+
+// How many bytes SU, and DL and DF, have before their lists.
 pub const SETUP_HEAD: usize = 10;
 
 pub const DEALING_HEAD: usize = 6;

@@ -19,16 +19,16 @@ use Rattle.base.proofs.Search.{every-at, every-all, first-is, firstVec-sound, f
 use Rattle.field.specs.Fields.{isField}
 use Rattle.scheme.specs.Setup.{Setup, dim}
 use Rattle.scheme.specs.declared.Judgement.{Judgement}
-use Rattle.scheme.specs.declared.Judgement.the-variants.{Accept, Reject}
+use Rattle.scheme.specs.declared.Judgement.the-variants.{Accept, Reject, RejectMap}
 use Rattle.scheme.specs.declared.Fate.{Fate}
 use Rattle.scheme.specs.declared.Fate.the-variants.{Kept, Aborted}
 use Rattle.scheme.specs.Answers.{paperJudgement, paperFate, fair, disagree, isARow, isAVector, isNeither, yes, no, undetermined, inconsistent}
-use Rattle.scheme.specs.Dealing.{judgementOf, fateOf, pairValue, disagrees, rehearse}
+use Rattle.scheme.specs.Dealing.{judgementOf, judgementMapped, fateOf, pairValue, disagrees, rehearse}
 use Rattle.scheme.specs.Sets.{holds, members, hasRow, hasSweep, rowSteps, kind, determines, isPrivate}
 use Rattle.scheme.specs.Opening.{gives, opening, openedBy, combine}
-use Rattle.scheme.specs.Calls.{decide, pointsRules, dealRules, dealAllRules, pairValueRules, judgeRules, outcomeRules, rehearseRules, setRules, judgeSetRules, openRules, openCall, combineRules}
+use Rattle.scheme.specs.Calls.{decide, pointsRules, dealRules, dealAllRules, dealMappedRules, dealMappedAllRules, pairValueRules, judgeRules, judgeMappedRules, outcomeRules, rehearseRules, setRules, judgeSetRules, openRules, openCall, combineRules}
 use Rattle.scheme.specs.Answering.{AllLowest, Marked, AllMarked, Answers, Behind, OpenAnswers, Answering}
-use Rattle.scheme.proofs.Calls.{points-accepts, deal-accepts, dealAll-accepts, pairValue-accepts, judge-accepts, outcome-accepts, rehearse-accepts, set-accepts, judgeSet-accepts, open-accepts, combine-accepts}
+use Rattle.scheme.proofs.Calls.{points-accepts, deal-accepts, dealAll-accepts, dealMapped-accepts, dealMappedAll-accepts, pairValue-accepts, judge-accepts, judgeMapped-accepts, outcome-accepts, rehearse-accepts, set-accepts, judgeSet-accepts, open-accepts, combine-accepts}
 use Rattle.scheme.proofs.Certificates.{by-search, undetermined-in-hand}
 
 is-false : (b : Bool) → (b ≡ true → ⊥) → b ≡ false
@@ -52,6 +52,7 @@ pub judgement-given : (j : Judgement) → Given (paperJudgement j)
 unfolding Given
 judgement-given Accept = refl
 judgement-given (Reject j) = refl
+judgement-given RejectMap = refl
 
 pub fate-given : (f : Fate) → Given (paperFate f)
 unfolding Given
@@ -109,8 +110,11 @@ all-lowest =
       points = λ S. lowest (pointsRules S) tt;
       deal = λ S secrets random i g h. lowest (dealRules S secrets random i g h) tt;
       deal-all = λ S secrets random gs hs. lowest (dealAllRules S secrets random gs hs) tt;
+      deal-mapped = λ S secrets random phi random2 i B. lowest (dealMappedRules S secrets random phi random2 i B) tt;
+      deal-mapped-all = λ S secrets random phi random2 B. lowest (dealMappedAllRules S secrets random phi random2 B) tt;
       pair-value = λ S g i. lowest (pairValueRules S g i) tt;
       judge = λ S h values. lowest (judgeRules S h values) tt;
+      judge-mapped = λ S h values phi h2 values2. lowest (judgeMappedRules S h values phi h2 values2) tt;
       outcome = λ S g verdicts out. lowest (outcomeRules S g verdicts out) tt;
       rehearse = λ S gs hs. lowest (rehearseRules S gs hs) tt;
       set = λ S s. lowest (setRules S s) tt;
@@ -142,8 +146,12 @@ all-marked =
       points = λ S. marked-by (refusal (pointsRules S)) (given []) refl;
       deal = λ S secrets random i g h. marked-by (refusal (dealRules S secrets random i g h)) (given []) refl;
       deal-all = λ S secrets random gs hs. marked-by (refusal (dealAllRules S secrets random gs hs)) (given []) refl;
+      deal-mapped = λ S secrets random phi random2 i B. marked-by (refusal (dealMappedRules S secrets random phi random2 i B)) (given []) refl;
+      deal-mapped-all = λ S secrets random phi random2 B. marked-by (refusal (dealMappedAllRules S secrets random phi random2 B)) (given []) refl;
       pair-value = λ S g i. marked-by (refusal (pairValueRules S g i)) (given (pairValue S g i ∷ [])) refl;
       judge = λ S h values. marked-by (refusal (judgeRules S h values)) _ (marked-given _ (judgement-given (judgementOf S h values)));
+      judge-mapped = λ S h values phi h2 values2.
+          marked-by (refusal (judgeMappedRules S h values phi h2 values2)) _ (marked-given _ (judgement-given (judgementMapped S h values phi h2 values2)));
       outcome = λ S g verdicts out. marked-by (refusal (outcomeRules S g verdicts out)) _ (marked-given _ (fate-given (fateOf S verdicts)));
       rehearse = λ S gs hs. marked-by (refusal (rehearseRules S gs hs)) _ (marked-given _ (rehearse-given S gs hs));
       determines = λ S s. marked-by (refusal (setRules S s)) _ (marked-given _ (decide-given (determines S (holds s))));
@@ -196,10 +204,20 @@ answering =
           answers-by (refusal (dealRules S secrets random i g h)) _ (deal-accepts S secrets random i g h (record { setup = ok; vectors = v; entries = r }) a b l) (given-given []);
       deal-all = λ S secrets random gs hs ok v r a b.
           answers-by (refusal (dealAllRules S secrets random gs hs)) _ (dealAll-accepts S secrets random gs hs (record { setup = ok; vectors = v; entries = r }) a b) (given-given []);
+      deal-mapped = λ S secrets random phi random2 i B ok v r m w l z.
+          answers-by (refusal (dealMappedRules S secrets random phi random2 i B)) _
+          (dealMapped-accepts S secrets random phi random2 B i (record { first = record { setup = ok; vectors = v; entries = r }; map = m; entries = w }) z l) (given-given []);
+      deal-mapped-all = λ S secrets random phi random2 B ok v r m w z.
+          answers-by (refusal (dealMappedAllRules S secrets random phi random2 B)) _
+          (dealMappedAll-accepts S secrets random phi random2 B (record { first = record { setup = ok; vectors = v; entries = r }; map = m; entries = w }) z) (given-given []);
       pair-value = λ S g i ok v l.
           answers-by (refusal (pairValueRules S g i)) _ (pairValue-accepts S g i (record { setup = ok; part = v; to = l })) (given-given _);
       judge = λ S h values ok v r.
           answers-by (refusal (judgeRules S h values)) _ (judge-accepts S h values (record { setup = ok; part = v; received = r })) (judgement-given (judgementOf S h values));
+      judge-mapped = λ S h values phi h2 values2 ok v r m w s.
+          answers-by (refusal (judgeMappedRules S h values phi h2 values2)) _
+          (judgeMapped-accepts S h values phi h2 values2 (record { first = record { setup = ok; part = v; received = r }; map = m; second = record { setup = ok; part = w; received = s } }))
+          (judgement-given (judgementMapped S h values phi h2 values2));
       outcome = λ S g verdicts out L v w room.
           answers-by (refusal (outcomeRules S g verdicts out)) _ (outcome-accepts S g verdicts out (record { limits = L; part = v; heard = w; room = room })) (fate-given (fateOf S verdicts));
       rehearse = λ S gs hs ok v w.

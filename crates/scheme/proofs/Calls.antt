@@ -22,7 +22,8 @@ use Rattle.field.proofs.Fields.{field-prime}
 use Rattle.scheme.specs.Setup.{Setup, dim, Limits, IsSetup}
 use Rattle.scheme.specs.Answers.{yes}
 use Rattle.scheme.specs.Sets.{holds, members, determines}
-use Rattle.scheme.specs.Calls.{outside, limits, Lent, elements, room, beyondField, sizes, inField, table, matrix, dealLent, beyond, pointsRules, dealRules, dealAllRules, pairValueRules, judgeRules, outcomeRules, rehearseRules, setRules, decide, determinesCall, judgeSetRules, openRules, combineRules}
+use Rattle.scheme.specs.Answering.{Sized}
+use Rattle.scheme.specs.Calls.{outside, limits, Lent, elements, room, beyondField, sizes, inField, table, matrix, dealLent, beyond, Buffers, dealMappedLent, pointsRules, dealRules, dealAllRules, dealMappedRules, dealMappedAllRules, pairValueRules, judgeRules, judgeMappedRules, outcomeRules, rehearseRules, setRules, decide, determinesCall, judgeSetRules, openRules, combineRules}
 use Rattle.scheme.proofs.Members.{members-wide}
 
 -- REFUSALS 1 TO 4, each test and its fact
@@ -203,6 +204,53 @@ module _ (S : Setup) (secrets random : List ℕ) where
       → refusal (dealAllRules S secrets random gs hs) ≡ 0
   dealAll-accepts gs hs ok a b = dealing-accepts (S .n * dim S) gs hs [] ok a b tt
 
+-- DEAL WITH A MAP
+pub record DealMappedOk (S : Setup) (secrets random phi random2 : List ℕ) : Type 0 where
+  pub first : DealOk S secrets random
+  pub map : Vec (S .p) (S .l * S .l) phi
+  pub entries : Vec (S .p) (S .e * dim S) random2
+
+module _ (S : Setup) (secrets random phi random2 : List ℕ) (B : Buffers) where
+  mapped-ok : (k : ℕ) (own : List Rule) → T (positive own) → refusal (table S (dealMappedLent S secrets random phi random2 k B) own) ≡ 0
+      → DealMappedOk S secrets random phi random2 × Sized k B × Clear own
+  mapped-ok k own t e =
+      let r = in-order S (dealMappedLent S secrets random phi random2 k B) own t e in
+      let v = r .lent in
+      let w = v .1 .1 .1 in (
+        record {
+          first = record { setup = record { limits = r .limits; matrix = v .0 }; vectors = v .1 .0; entries = v .1 .1 .0 };
+          map = w .0;
+          entries = w .1 .0;
+        },
+        record { g = w .1 .1 .0; h = w .1 .1 .1 .0; g2 = w .1 .1 .1 .1 .0; h2 = w .1 .1 .1 .1 .1 .0 },
+        r .own,
+      )
+
+  mapped-accepts : (k : ℕ) (own : List Rule) → DealMappedOk S secrets random phi random2 → Sized k B → Clear own
+      → refusal (table S (dealMappedLent S secrets random phi random2 k B) own) ≡ 0
+  mapped-accepts k own ok z c =
+      let a = ok .first in
+      accepts S (dealMappedLent S secrets random phi random2 k B) own (a .setup .limits)
+      (a .setup .matrix, (a .vectors, (a .entries, (ok .map, (ok .entries, (z .g, (z .h, (z .g2, (z .h2, tt))))))))) c
+
+  pub dealMapped-ok : (i : ℕ) → refusal (dealMappedRules S secrets random phi random2 i B) ≡ 0
+      → DealMappedOk S secrets random phi random2 × Sized (dim S) B × (i < S .n)
+  dealMapped-ok i e =
+      let r = mapped-ok (dim S) ((5 when leb (S .n) i) ∷ []) tt e in
+      (r .0, r .1, leb-false (S .n) i (r .2 .0))
+
+  pub dealMapped-accepts : (i : ℕ) → DealMappedOk S secrets random phi random2 → Sized (dim S) B → i < S .n
+      → refusal (dealMappedRules S secrets random phi random2 i B) ≡ 0
+  dealMapped-accepts i ok z l = mapped-accepts (dim S) ((5 when leb (S .n) i) ∷ []) ok z (lt-leb (S .n) i l, tt)
+
+  pub dealMappedAll-ok : refusal (dealMappedAllRules S secrets random phi random2 B) ≡ 0
+      → DealMappedOk S secrets random phi random2 × Sized (S .n * dim S) B
+  dealMappedAll-ok e = let r = mapped-ok (S .n * dim S) [] tt e in (r .0, r .1)
+
+  pub dealMappedAll-accepts : DealMappedOk S secrets random phi random2 → Sized (S .n * dim S) B
+      → refusal (dealMappedAllRules S secrets random phi random2 B) ≡ 0
+  dealMappedAll-accepts ok z = mapped-accepts (S .n * dim S) [] ok z tt
+
 -- PAIR VALUE
 pub record PairValueOk (S : Setup) (g : List ℕ) (i : ℕ) : Type 0 where
   pub setup : IsSetup S
@@ -239,6 +287,34 @@ module _ (S : Setup) (h values : List ℕ) where
 
   pub judge-accepts : JudgeOk S h values → refusal (judgeRules S h values) ≡ 0
   judge-accepts k = accepts S judge-lent [] (k .setup .limits) (k .setup .matrix, (k .part, (k .received, tt))) tt
+
+-- JUDGE WITH A MAP
+pub record JudgeMappedOk (S : Setup) (h values phi h2 values2 : List ℕ) : Type 0 where
+  pub first : JudgeOk S h values
+  pub map : Vec (S .p) (S .l * S .l) phi
+  pub second : JudgeOk S h2 values2
+
+module _ (S : Setup) (h values phi h2 values2 : List ℕ) where
+  abbrev judgeMapped-lent : List Lent
+  judgeMapped-lent =
+      matrix S ∷ elements h (dim S) ∷ elements values (S .n) ∷ elements phi (S .l * S .l) ∷ elements h2 (dim S) ∷ elements values2 (S .n) ∷ []
+
+  pub judgeMapped-ok : refusal (judgeMappedRules S h values phi h2 values2) ≡ 0 → JudgeMappedOk S h values phi h2 values2
+  judgeMapped-ok e =
+      let r = in-order S judgeMapped-lent [] tt e in
+      let v = r .lent in
+      let setup : IsSetup S = record { limits = r .limits; matrix = v .0 } in
+      record {
+        first = record { setup = setup; part = v .1 .0; received = v .1 .1 .0 };
+        map = v .1 .1 .1 .0;
+        second = record { setup = setup; part = v .1 .1 .1 .1 .0; received = v .1 .1 .1 .1 .1 .0 };
+      }
+
+  pub judgeMapped-accepts : JudgeMappedOk S h values phi h2 values2 → refusal (judgeMappedRules S h values phi h2 values2) ≡ 0
+  judgeMapped-accepts k =
+      let a = k .first in
+      let b = k .second in
+      accepts S judgeMapped-lent [] (a .setup .limits) (a .setup .matrix, (a .part, (a .received, (k .map, (b .part, (b .received, tt)))))) tt
 
 -- OUTCOME
 pub record OutcomeOk (S : Setup) (g verdicts out : List ℕ) : Type 0 where

@@ -4,6 +4,7 @@
 -- Marked: an answer says that the call answered exactly where the refusal's number is 0
 -- AllMarked: every call's answer does
 -- Answers: the call answered, that is, it was not refused
+-- Sized: buffers as long as needed
 -- Behind: some vector gives every share handed in
 -- OpenAnswers: what an opening answers whose inputs break nothing
 -- Answering: a call whose inputs break nothing answers: p, ℓ, e and n within the limits, lent lengths as needed, elements below p, indices in range
@@ -20,16 +21,19 @@ use Rattle.field.specs.Fields.{isField}
 use Rattle.scheme.specs.Setup.{Setup, dim, Limits, IsSetup}
 use Rattle.scheme.specs.Sets.{holds, members, determines}
 use Rattle.scheme.specs.Opening.{gives}
-use Rattle.scheme.specs.Calls.{pointsRules, dealRules, dealAllRules, pairValueRules, judgeRules, outcomeRules, rehearseRules, setRules, judgeSetRules, openRules, combineRules}
-use Rattle.scheme.specs.Calls.{pointsCall, dealCall, dealAllCall, pairValueCall, judgeCall, outcomeCall, rehearseCall, determinesCall, privateCall, judgeSetCall, openCall, combineCall}
+use Rattle.scheme.specs.Calls.{Buffers, pointsRules, dealRules, dealAllRules, dealMappedRules, dealMappedAllRules, pairValueRules, judgeRules, judgeMappedRules, outcomeRules, rehearseRules, setRules, judgeSetRules, openRules, combineRules}
+use Rattle.scheme.specs.Calls.{pointsCall, dealCall, dealAllCall, dealMappedCall, dealMappedAllCall, pairValueCall, judgeCall, judgeMappedCall, outcomeCall, rehearseCall, determinesCall, privateCall, judgeSetCall, openCall, combineCall}
 
 -- THE LOWEST NUMBER: "In a call the lowest number that applies is given"
 pub record AllLowest : Type 0 where
   pub points : (S : Setup) → Lowest (pointsRules S)
   pub deal : (S : Setup) (secrets random : List ℕ) (i : ℕ) (g h : List ℕ) → Lowest (dealRules S secrets random i g h)
   pub deal-all : (S : Setup) (secrets random gs hs : List ℕ) → Lowest (dealAllRules S secrets random gs hs)
+  pub deal-mapped : (S : Setup) (secrets random phi random2 : List ℕ) (i : ℕ) (B : Buffers) → Lowest (dealMappedRules S secrets random phi random2 i B)
+  pub deal-mapped-all : (S : Setup) (secrets random phi random2 : List ℕ) (B : Buffers) → Lowest (dealMappedAllRules S secrets random phi random2 B)
   pub pair-value : (S : Setup) (g : List ℕ) (i : ℕ) → Lowest (pairValueRules S g i)
   pub judge : (S : Setup) (h values : List ℕ) → Lowest (judgeRules S h values)
+  pub judge-mapped : (S : Setup) (h values phi h2 values2 : List ℕ) → Lowest (judgeMappedRules S h values phi h2 values2)
   pub outcome : (S : Setup) (g verdicts out : List ℕ) → Lowest (outcomeRules S g verdicts out)
   pub rehearse : (S : Setup) (gs hs : List ℕ) → Lowest (rehearseRules S gs hs)
   pub set : (S : Setup) (s : ℕ) → Lowest (setRules S s)
@@ -46,8 +50,11 @@ pub record AllMarked : Type 0 where
   pub points : (S : Setup) → Marked (pointsCall S)
   pub deal : (S : Setup) (secrets random : List ℕ) (i : ℕ) (g h : List ℕ) → Marked (dealCall S secrets random i g h)
   pub deal-all : (S : Setup) (secrets random gs hs : List ℕ) → Marked (dealAllCall S secrets random gs hs)
+  pub deal-mapped : (S : Setup) (secrets random phi random2 : List ℕ) (i : ℕ) (B : Buffers) → Marked (dealMappedCall S secrets random phi random2 i B)
+  pub deal-mapped-all : (S : Setup) (secrets random phi random2 : List ℕ) (B : Buffers) → Marked (dealMappedAllCall S secrets random phi random2 B)
   pub pair-value : (S : Setup) (g : List ℕ) (i : ℕ) → Marked (pairValueCall S g i)
   pub judge : (S : Setup) (h values : List ℕ) → Marked (judgeCall S h values)
+  pub judge-mapped : (S : Setup) (h values phi h2 values2 : List ℕ) → Marked (judgeMappedCall S h values phi h2 values2)
   pub outcome : (S : Setup) (g verdicts out : List ℕ) → Marked (outcomeCall S g verdicts out)
   pub rehearse : (S : Setup) (gs hs : List ℕ) → Marked (rehearseCall S gs hs)
   pub determines : (S : Setup) (s : ℕ) → Marked (determinesCall S s)
@@ -59,6 +66,13 @@ pub record AllMarked : Type 0 where
 -- INPUTS THAT BREAK NOTHING
 abbrev pub Answers : Answer → Type 0
 Answers a = a .answered ≡ true
+
+-- four buffers of k entries each
+pub record Sized (k : ℕ) (B : Buffers) : Type 0 where
+  pub g : length (B .g) ≡ k
+  pub h : length (B .h) ≡ k
+  pub g2 : length (B .g2) ≡ k
+  pub h2 : length (B .h2) ≡ k
 
 -- of an opening: "any vector of d entries that gives every share"
 pub record Behind (S : Setup) (s : ℕ) (xs : List ℕ) : Type 0 where
@@ -80,8 +94,16 @@ pub record Answering : Type 0 where
   pub deal-all : (S : Setup) (secrets random gs hs : List ℕ) → IsSetup S
       → Vec (S .p) (S .l * S .l) secrets → Vec (S .p) (dim S * dim S - S .l * S .l) random → length gs ≡ S .n * dim S → length hs ≡ S .n * dim S
       → Answers (dealAllCall S secrets random gs hs)
+  pub deal-mapped : (S : Setup) (secrets random phi random2 : List ℕ) (i : ℕ) (B : Buffers) → IsSetup S
+      → Vec (S .p) (S .l * S .l) secrets → Vec (S .p) (dim S * dim S - S .l * S .l) random → Vec (S .p) (S .l * S .l) phi → Vec (S .p) (S .e * dim S) random2
+      → i < S .n → Sized (dim S) B → Answers (dealMappedCall S secrets random phi random2 i B)
+  pub deal-mapped-all : (S : Setup) (secrets random phi random2 : List ℕ) (B : Buffers) → IsSetup S
+      → Vec (S .p) (S .l * S .l) secrets → Vec (S .p) (dim S * dim S - S .l * S .l) random → Vec (S .p) (S .l * S .l) phi → Vec (S .p) (S .e * dim S) random2
+      → Sized (S .n * dim S) B → Answers (dealMappedAllCall S secrets random phi random2 B)
   pub pair-value : (S : Setup) (g : List ℕ) (i : ℕ) → IsSetup S → Vec (S .p) (dim S) g → i < S .n → Answers (pairValueCall S g i)
   pub judge : (S : Setup) (h values : List ℕ) → IsSetup S → Vec (S .p) (dim S) h → Vec (S .p) (S .n) values → Answers (judgeCall S h values)
+  pub judge-mapped : (S : Setup) (h values phi h2 values2 : List ℕ) → IsSetup S → Vec (S .p) (dim S) h → Vec (S .p) (S .n) values
+      → Vec (S .p) (S .l * S .l) phi → Vec (S .p) (dim S) h2 → Vec (S .p) (S .n) values2 → Answers (judgeMappedCall S h values phi h2 values2)
   pub outcome : (S : Setup) (g verdicts out : List ℕ) → Limits S → Vec (S .p) (dim S) g → Vec 2 (S .n) verdicts → length out ≡ S .l
       → Answers (outcomeCall S g verdicts out)
   pub rehearse : (S : Setup) (gs hs : List ℕ) → IsSetup S → Vec (S .p) (S .n * dim S) gs → Vec (S .p) (S .n * dim S) hs → Answers (rehearseCall S gs hs)

@@ -1,6 +1,7 @@
 -- What the calls answer, as document 01 has it: the refusal's number (0: none) and the values beside it; and for each case of each answer type
 -- of the code, `paper`, the number and values that document 01 has for it.
 -- accepts, rejects: a verdict as a record has it, 1 or 0, and after 0 the holder named
+-- rejectsMap: a rejection that names no holder, for only the check of the map fails
 -- kept, aborted: an outcome in the same way
 -- fair, disagree: a rehearsal in the same way, with the pair
 -- isARow, isAVector, isNeither: the judgement of a set, 1, 2 or 0, then its row steps
@@ -15,7 +16,7 @@ use Rattle.scheme.specs.declared.Written.the-variants.{Done, Refused}
 use Rattle.scheme.specs.declared.Value.{Value}
 use Rattle.scheme.specs.declared.Value.the-variants as value
 use Rattle.scheme.specs.declared.Judgement.{Judgement}
-use Rattle.scheme.specs.declared.Judgement.the-variants.{Accept, Reject}
+use Rattle.scheme.specs.declared.Judgement.the-variants.{Accept, Reject, RejectMap}
 use Rattle.scheme.specs.declared.Judged.{Judged}
 use Rattle.scheme.specs.declared.Judged.the-variants as judged
 use Rattle.scheme.specs.declared.Fate.{Fate}
@@ -36,6 +37,9 @@ accepts = given (1 ∷ [])
 
 abbrev pub rejects : ℕ → Answer
 rejects j = given (0 ∷ j ∷ [])
+
+abbrev pub rejectsMap : Answer
+rejectsMap = given (0 ∷ [])
 
 abbrev pub kept : Answer
 kept = given (1 ∷ [])
@@ -82,6 +86,7 @@ paperValue (value.Refused k) = refused k
 abbrev pub paperJudgement : Judgement → Answer
 paperJudgement Accept = accepts
 paperJudgement (Reject j) = rejects j
+paperJudgement RejectMap = rejectsMap
 
 abbrev pub paperJudged : Judged → Answer
 paperJudged (judged.As j) = paperJudgement j

@@ -6,6 +6,8 @@
 -- table: the one shape of a table: the limits, the lengths of all that is lent, the elements of all that is taken, then the call's own rules
 -- matrix: the setup's matrix, lent; setupRules: the limits and the length of a matrix, with which many tables begin
 -- xRules, xCall, xLeft: the table, the answer and the buffer of call x
+-- toAll: every holder's part, one after the other
+-- Buffers: four lent buffers, for a holder's part and its second part, or for those of all
 use mathlib.Core.Path.{_≡_}
 use mathlib.Core.Bool.{Bool, true, not, _||_}
 use mathlib.Core.List.{List, [], _∷_, _++_}
@@ -23,7 +25,7 @@ use Rattle.field.specs.Dot.{at}
 use Rattle.scheme.specs.Setup.{Setup, dim}
 use Rattle.scheme.specs.Points.{pointsMatrix}
 use Rattle.scheme.specs.Answers.{yes, no, isARow, isAVector, isNeither}
-use Rattle.scheme.specs.Dealing.{dealt, partG, partH, pairValue, judge, outcome, isKept, shares, rehearse}
+use Rattle.scheme.specs.Dealing.{dealt, partG, partH, pairValue, judge, outcome, isKept, shares, rehearse, dealtMapped, judgeMapped}
 use Rattle.scheme.specs.Sets.{holds, members, oneRow, isSweep, rowSteps, kind, determines, isPrivate}
 use Rattle.scheme.specs.Opening.{opening, combine}
 
@@ -92,6 +94,9 @@ abbrev pub dealLeftH : Setup → List ℕ → List ℕ → ℕ → List ℕ → 
 dealLeftH S secrets random i g h = leftBy (refusal (dealRules S secrets random i g h)) (partH S (dealt S secrets random) i) h
 
 -- DEAL TO ALL: every holder's g, one after the other, and every holder's h
+abbrev pub toAll : Setup → (ℕ → List ℕ) → List ℕ
+toAll S part = tab (S .n * dim S) (flat (dim S) (λ i. at (part i)))
+
 abbrev pub dealAllRules : Setup → List ℕ → List ℕ → List ℕ → List ℕ → List Rule
 dealAllRules S secrets random gs hs =
     table S (dealLent S secrets random ++ room (length gs) (S .n * dim S) ∷ room (length hs) (S .n * dim S) ∷ []) []
@@ -100,12 +105,59 @@ abbrev pub dealAllCall : Setup → List ℕ → List ℕ → List ℕ → List �
 dealAllCall S secrets random gs hs = answerBy (refusal (dealAllRules S secrets random gs hs)) (given [])
 
 abbrev pub dealAllLeftG : Setup → List ℕ → List ℕ → List ℕ → List ℕ → List ℕ
-dealAllLeftG S secrets random gs hs =
-    leftBy (refusal (dealAllRules S secrets random gs hs)) (tab (S .n * dim S) (flat (dim S) (λ i. at (partG S (dealt S secrets random) i)))) gs
+dealAllLeftG S secrets random gs hs = leftBy (refusal (dealAllRules S secrets random gs hs)) (toAll S (partG S (dealt S secrets random))) gs
 
 abbrev pub dealAllLeftH : Setup → List ℕ → List ℕ → List ℕ → List ℕ → List ℕ
-dealAllLeftH S secrets random gs hs =
-    leftBy (refusal (dealAllRules S secrets random gs hs)) (tab (S .n * dim S) (flat (dim S) (λ i. at (partH S (dealt S secrets random) i)))) hs
+dealAllLeftH S secrets random gs hs = leftBy (refusal (dealAllRules S secrets random gs hs)) (toAll S (partH S (dealt S secrets random))) hs
+
+-- DEAL WITH A MAP (document 02, A7): both parts of one holder, into the lent g and h and the second g and h; φ by rows, and the second lent random
+-- entries, e rows of d
+pub record Buffers : Type 0 where
+  pub g : List ℕ
+  pub h : List ℕ
+  pub g2 : List ℕ
+  pub h2 : List ℕ
+
+abbrev pub dealMappedLent : Setup → (secrets random phi random2 : List ℕ) → (k : ℕ) → Buffers → List Lent
+dealMappedLent S secrets random phi random2 k B =
+    dealLent S secrets random ++ elements phi (S .l * S .l) ∷ elements random2 (S .e * dim S)
+    ∷ room (length (B .g)) k ∷ room (length (B .h)) k ∷ room (length (B .g2)) k ∷ room (length (B .h2)) k ∷ []
+
+abbrev pub secondDealt : Setup → (secrets random phi random2 : List ℕ) → List ℕ
+secondDealt S secrets random phi random2 = dealtMapped S (dealt S secrets random) phi random2
+
+abbrev pub dealMappedRules : Setup → (secrets random phi random2 : List ℕ) → ℕ → Buffers → List Rule
+dealMappedRules S secrets random phi random2 i B =
+    table S (dealMappedLent S secrets random phi random2 (dim S) B) ((5 when leb (S .n) i) ∷ [])
+
+abbrev pub dealMappedCall : Setup → (secrets random phi random2 : List ℕ) → ℕ → Buffers → Answer
+dealMappedCall S secrets random phi random2 i B = answerBy (refusal (dealMappedRules S secrets random phi random2 i B)) (given [])
+
+abbrev pub dealMappedLeft : Setup → (secrets random phi random2 : List ℕ) → ℕ → Buffers → Buffers
+dealMappedLeft S secrets random phi random2 i B =
+    let k = refusal (dealMappedRules S secrets random phi random2 i B) in
+    let F = dealt S secrets random in
+    let F2 = secondDealt S secrets random phi random2 in
+    record { g = leftBy k (partG S F i) (B .g); h = leftBy k (partH S F i) (B .h); g2 = leftBy k (partG S F2 i) (B .g2); h2 = leftBy k (partH S F2 i) (B .h2) }
+
+-- the same to all
+abbrev pub dealMappedAllRules : Setup → (secrets random phi random2 : List ℕ) → Buffers → List Rule
+dealMappedAllRules S secrets random phi random2 B = table S (dealMappedLent S secrets random phi random2 (S .n * dim S) B) []
+
+abbrev pub dealMappedAllCall : Setup → (secrets random phi random2 : List ℕ) → Buffers → Answer
+dealMappedAllCall S secrets random phi random2 B = answerBy (refusal (dealMappedAllRules S secrets random phi random2 B)) (given [])
+
+abbrev pub dealMappedAllLeft : Setup → (secrets random phi random2 : List ℕ) → Buffers → Buffers
+dealMappedAllLeft S secrets random phi random2 B =
+    let k = refusal (dealMappedAllRules S secrets random phi random2 B) in
+    let F = dealt S secrets random in
+    let F2 = secondDealt S secrets random phi random2 in
+    record {
+      g = leftBy k (toAll S (partG S F)) (B .g);
+      h = leftBy k (toAll S (partH S F)) (B .h);
+      g2 = leftBy k (toAll S (partG S F2)) (B .g2);
+      h2 = leftBy k (toAll S (partH S F2)) (B .h2);
+    }
 
 -- PAIR VALUE of the holder with row part g, for holder i
 abbrev pub pairValueRules : Setup → List ℕ → ℕ → List Rule
@@ -120,6 +172,14 @@ judgeRules S h values = table S (matrix S ∷ elements h (dim S) ∷ elements va
 
 abbrev pub judgeCall : Setup → List ℕ → List ℕ → Answer
 judgeCall S h values = answerBy (refusal (judgeRules S h values)) (judge S h values)
+
+-- JUDGE WITH A MAP (document 02, A7), on both column parts, both lists of values received, and φ
+abbrev pub judgeMappedRules : Setup → (h values phi h2 values2 : List ℕ) → List Rule
+judgeMappedRules S h values phi h2 values2 =
+    table S (matrix S ∷ elements h (dim S) ∷ elements values (S .n) ∷ elements phi (S .l * S .l) ∷ elements h2 (dim S) ∷ elements values2 (S .n) ∷ []) []
+
+abbrev pub judgeMappedCall : Setup → (h values phi h2 values2 : List ℕ) → Answer
+judgeMappedCall S h values phi h2 values2 = answerBy (refusal (judgeMappedRules S h values phi h2 values2)) (judgeMapped S h values phi h2 values2)
 
 -- OUTCOME, on the row part g and the n verdicts received, into ℓ lent shares; it needs no matrix. "12: verdict neither 0 nor 1"
 abbrev pub outcomeRules : Setup → List ℕ → List ℕ → List ℕ → List Rule

@@ -1,4 +1,5 @@
--- Dealing and judging (document 01, "Dealing and judging", steps 1 to 5; source document 000, figure 3).
+-- Dealing and judging (document 01, "Dealing and judging", steps 1 to 5; source document 000, figure 3), and two dealings tied by a public map (document
+-- 02, A7; source document 000, figure 4).
 -- place: where the entry of F in row k and column b stands in the lent random list
 -- dealt: F by rows, from the secret vectors and the lent random entries
 -- partG, partH: holder i's part
@@ -7,20 +8,25 @@
 -- judgementOf: a holder's judgement of the n values it received; judge: as document 01 has it
 -- isKept, fateOf, shares: the end of a dealing, from the n verdicts received; outcome: as document 01 has it
 -- rehearse: the dealer's rehearsal on all n parts
-use mathlib.Core.Bool.{Bool, not, _&&_}
+-- imageAt, image: the map φ, ℓ by ℓ and by rows, of the first ℓ entries of a vector
+-- dealtMapped: F_φ by rows, from F and the second lent random entries
+-- differsIn: the value from j differs in either dealing
+-- mapHolds: the first ℓ entries of the second h are the map of those of the first
+-- judgementMapped: a holder's judgement of both dealings; judgeMapped: as document 01 has it
+use mathlib.Core.Bool.{Bool, not, _&&_, _||_}
 use mathlib.Core.List.{List}
 use Prim.Native.Nat.{ℕ, _+_, _-_, _*_, _/_, _%_}
 use lib.Dec.{eqb, ltb}
 use lib.ListN.{take}
 use Rattle.base.specs.Choice.{pick}
 use Rattle.base.specs.Rules.{Answer}
-use Rattle.base.specs.Search.{first}
+use Rattle.base.specs.Search.{first, every}
 use Rattle.base.specs.Fill.{tab}
 use Rattle.base.specs.Matrix.{entry, flat}
 use Rattle.field.specs.Dot.{at, dot}
 use Rattle.scheme.specs.Setup.{Setup, dim, row}
 use Rattle.scheme.specs.declared.Judgement.{Judgement}
-use Rattle.scheme.specs.declared.Judgement.the-variants.{Accept, Reject}
+use Rattle.scheme.specs.declared.Judgement.the-variants.{Accept, Reject, RejectMap}
 use Rattle.scheme.specs.declared.Fate.{Fate}
 use Rattle.scheme.specs.declared.Fate.the-variants.{Kept, Aborted}
 use Rattle.scheme.specs.Answers.{paperJudgement, paperFate, fair, disagree}
@@ -90,3 +96,35 @@ unfoldable pub rehearse : Setup → List ℕ → List ℕ → Answer
 rehearse S gs hs =
     let t = first (flat (S .n) (disagrees S gs hs)) (S .n * S .n) in
     pick (ltb t (S .n * S .n)) (disagree (t / S .n) (t % S .n)) fair
+
+-- TWO DEALINGS TIED BY A MAP (document 02, A7). "keys related by an ℓ by ℓ matrix φ": position k of the map is row k of φ times the vector's first ℓ
+-- entries
+unfoldable pub imageAt : Setup → List ℕ → (ℕ → ℕ) → ℕ → ℕ
+imageAt S phi v k = dot (S .l) (entry (S .l) phi k) v % S .p
+
+abbrev pub image : Setup → List ℕ → List ℕ → List ℕ
+image S phi v = tab (S .l) (imageAt S phi (at v))
+
+-- "a second array F_φ with the first ℓ entries of its every column the map of those of F"; its last e rows are lent random entries, row by row
+unfoldable pub mappedEntry : Setup → List ℕ → List ℕ → List ℕ → ℕ → ℕ → ℕ
+mappedEntry S F phi random k b = pick (ltb k (S .l)) (imageAt S phi (λ c. entry (dim S) F c b) k) (at random ((k - S .l) * dim S + b))
+
+unfoldable pub dealtMapped : Setup → List ℕ → List ℕ → List ℕ → List ℕ
+dealtMapped S F phi random = tab (dim S * dim S) (flat (dim S) (mappedEntry S F phi random))
+
+-- "Each holder gets a second part, checks its pair values too": "A rejection names the lowest sender wrong in either dealing"
+unfoldable pub differsIn : Setup → List ℕ → List ℕ → List ℕ → List ℕ → ℕ → Bool
+differsIn S h values h2 values2 j = differs S h values j || differs S h2 values2 j
+
+-- "and checks that the first ℓ entries of the second h are the map of those of the first"
+unfoldable pub mapHolds : Setup → List ℕ → List ℕ → List ℕ → Bool
+mapHolds S h phi h2 = every (S .l) (λ k. eqb (at h2 k) (imageAt S phi (at h) k))
+
+-- "If only that last check fails, the verdict is `reject map`"
+unfoldable pub judgementMapped : Setup → List ℕ → List ℕ → List ℕ → List ℕ → List ℕ → Judgement
+judgementMapped S h values phi h2 values2 =
+    let j = first (differsIn S h values h2 values2) (S .n) in
+    pick (ltb j (S .n)) (Reject j) (pick (mapHolds S h phi h2) Accept RejectMap)
+
+abbrev pub judgeMapped : Setup → List ℕ → List ℕ → List ℕ → List ℕ → List ℕ → Answer
+judgeMapped S h values phi h2 values2 = paperJudgement (judgementMapped S h values phi h2 values2)

@@ -47,10 +47,12 @@ pub enum Value {
     Refused(u16),
 }
 
-// A holder's judgement of a dealing: a rejection names the lowest holder whose value differs.
+// A holder's judgement of a dealing: a rejection names the lowest holder whose value differs; of two dealings tied by a map, only the check of the map
+// may fail.
 pub enum Judgement {
     Accept,
     Reject(u16),
+    RejectMap,
 }
 
 pub enum Judged {
