@@ -22,7 +22,7 @@ use Rattle.record_layouts.specs.declared.VerdictRecord.{VerdictRecord}
 use Rattle.record_layouts.specs.declared.ShareRecord.{ShareRecord}
 use Rattle.record_layouts.specs.Records.{dealingLent, writeRules, readRules, setupWords, setupSize, writeSetupRules, readSetupRules, readMatrixRules}
 use Rattle.record_layouts.specs.Records.{parts, dealingWords, dealingSize, dealingFaults, dealingLayout, readDealingRules}
-use Rattle.record_layouts.specs.Records.{pairWords, pairSize, pairFaults, pairLayout, verdictWords, verdictSize, verdictFaults, verdictLayout, shareWords, shareSize, shareFaults, shareLayout}
+use Rattle.record_layouts.specs.Records.{pairWords, pairSize, pairFaults, markPV, pairLayout, verdictWords, verdictSize, verdictFaults, verdictLayout, shareWords, shareSize, shareFaults, shareLayout}
 use Rattle.record_layouts.specs.Answering.{RecordsMarked, WritersRising, DealingInOrder, PairInOrder, VerdictInOrder, ShareInOrder, RecordsAnswering}
 use Rattle.record_layouts.proofs.Layouts.{dealing-lawful, pair-lawful, verdict-lawful, share-lawful}
 use Rattle.record_layouts.proofs.Calls.{matrix-as-setup}
@@ -106,7 +106,7 @@ records-answering =
       write-pair = λ S x out L w e.
           answers-by (refusal (writeRules pairLayout S x (length out))) [] (accepts S (room (length out) pairSize ∷ []) (pairFaults S x) L (e, tt) (pair-clear S x w));
       read-pair = λ S x rest L w.
-          answers-by (refusal (readRules pairLayout S [] (bytes (pairWords x) ++ rest))) _ (fair pairLayout pair-lawful S x rest [] L tt (pair-clear S x w) tt);
+          answers-by (refusal (readRules pairLayout S [] (bytes (pairWords x) ++ rest))) _ (fair pairLayout (pair-lawful markPV) S x rest [] L tt (pair-clear S x w) tt);
       write-verdict = λ S x out L w e.
           answers-by (refusal (writeRules verdictLayout S x (length out))) [] (accepts S (room (length out) verdictSize ∷ []) (verdictFaults S x) L (e, tt) (verdict-clear S x w));
       read-verdict = λ S x rest L w.

@@ -13,7 +13,7 @@ use Rattle.scheme.specs.Calls.{limits, Lent, room, sizes, inField, matrix}
 use Rattle.scheme.proofs.Calls.{limits-clear, size-clear, in-order, accepts}
 use Rattle.record_layouts.specs.Words.{bytes, wordAt, Bytes}
 use Rattle.record_layouts.proofs.Words.{Shows, length-words, shows-words, bytes-shown}
-use Rattle.record_layouts.specs.Records.{due, Layout, allWords, writeRules, writeCall, writeLeft, readCall, markSU, setupWords, setupSize, setupAt, writeSetupRules, readMatrixRules, dealingLayout, dealingLent, pairLayout, verdictLayout, shareLayout}
+use Rattle.record_layouts.specs.Records.{due, Layout, allWords, writeRules, writeCall, writeLeft, readCall, markSU, setupWords, setupSize, setupAt, writeSetupRules, readMatrixRules, dealingLayout, dealingLent, markPV, pairLayout, verdictLayout, shareLayout}
 use Rattle.record_layouts.specs.Sound.{Rewritten, Exact}
 use Rattle.record_layouts.proofs.Layouts.{Lawful, dealing-lawful, pair-lawful, verdict-lawful, share-lawful}
 use Rattle.record_layouts.proofs.Calls.{setup-read, matrix-room, matrix-as-setup}
@@ -72,7 +72,7 @@ exact =
     record {
       setup = λ s m out b k e. setup-exact s m out b k (not-refused _ (given []) [] e .0);
       dealing = λ S s g h out vs b k e. exact-by dealingLayout dealing-lawful S s (dealingLent S (length g) (length h)) out _ vs b k e;
-      pair = λ S s out vs b k e. exact-by pairLayout pair-lawful S s [] out _ vs b k e;
+      pair = λ S s out vs b k e. exact-by pairLayout (pair-lawful markPV) S s [] out _ vs b k e;
       verdict = λ S s out vs b k e. exact-by verdictLayout verdict-lawful S s [] out _ vs b k e;
       share = λ S s out vs b k e. exact-by shareLayout share-lawful S s [] out _ vs b k e;
     }
