@@ -137,7 +137,16 @@ read-back =
             row = λ a b i j. list-back dealingLayout dealing-lawful S (parts x g h) out before rest e (lent a b) (i, (j, tt)) (λ (y : DealingParts). y .g) a;
             column = λ a b i j. list-back dealingLayout dealing-lawful S (parts x g h) out before rest e (lent a b) (i, (j, tt)) (λ (y : DealingParts). y .h) b;
           };
+      mapped = λ S x g h phi out before rest e.
+          let lent : List ℕ → List ℕ → List ℕ → List Lent = λ a b c. mappedLent S (length a) (length b) (length c) in
+          record {
+            numbers = λ a b c i j k. answer-back mappedLayout mapped-lawful S (mappedParts x g h phi) out before rest e (lent a b c) (i, (j, (k, tt))) (λ (y : MappedParts). y .numbers .dealing ∷ y .numbers .holder ∷ []);
+            row = λ a b c i j k. list-back mappedLayout mapped-lawful S (mappedParts x g h phi) out before rest e (lent a b c) (i, (j, (k, tt))) (λ (y : MappedParts). y .g) a;
+            column = λ a b c i j k. list-back mappedLayout mapped-lawful S (mappedParts x g h phi) out before rest e (lent a b c) (i, (j, (k, tt))) (λ (y : MappedParts). y .h) b;
+            map = λ a b c i j k. list-back mappedLayout mapped-lawful S (mappedParts x g h phi) out before rest e (lent a b c) (i, (j, (k, tt))) (λ (y : MappedParts). y .phi) c;
+          };
       pair = λ S x out before rest e. answer-back pairLayout (pair-lawful markPV) S x out before rest e [] tt pairValues;
+      mapped-pair = λ S x out before rest e. answer-back mappedPairLayout (pair-lawful markPF) S x out before rest e [] tt pairValues;
       verdict = λ S x out before rest e. answer-back verdictLayout verdict-lawful S x out before rest e [] tt verdictValues;
       share = λ S x out before rest e. answer-back shareLayout share-lawful S x out before rest e [] tt shareValues;
     }
