@@ -1,7 +1,9 @@
--- Document 01's file of 90 bytes and its three variants ("The holder program on paper"), and files with a record out of its order, read by the definitions.
--- front, pv, vd: the bytes of SU and DL, of a PV and of a VD
+-- Document 01's file of 90 bytes and its three variants ("The holder program on paper"), files with a record out of its order, and files with a DF, read by the
+-- definitions.
+-- front, pv, vd: the bytes of SU and DL, of a PV and of a VD; df, pf: those of a DF and of a PF
 -- worked, last-gone, rejected, contradicted: document 01's four files; workedContents, rejectedContents: what the first and the third hold
 -- numbered, numberedContents: a file whose dealing number and holder differ, and what it holds
+-- tied, tiedContents: the first with a second dealing, its secret twice the first's, and what it holds
 use mathlib.Core.Path.{_≡_, refl}
 use mathlib.Core.List.{List, [], _∷_, _++_}
 use Prim.Native.Nat.{ℕ}
@@ -12,14 +14,14 @@ use Rattle.base.specs.Fill.{tab, tabFrom}
 use Rattle.base.specs.Matrix.{allBelow}
 use Rattle.field.specs.Fields.{isField}
 use Rattle.field.specs.Dot.{dot}
-use Rattle.scheme.specs.Dealing.{expected, differs, saidReject, isKept, judgementOf, fateOf}
+use Rattle.scheme.specs.Dealing.{expected, differs, saidReject, isKept, judgementOf, imageAt, differsIn, mapHolds, judgementMapped, fateOf}
 use Rattle.scheme.proofs.Calls.{below-vec, vec-of}
 use Rattle.scheme.proofs.Cases.{ex}
 use Rattle.record_layouts.specs.Words.{bytes, wordsAt}
-use Rattle.file_records.specs.Received.{pairFault, verdictFault, markFault, recordFault, faultAt, reached}
-use Rattle.file_reading.specs.Contents.{Contents, fileBytes}
+use Rattle.file_records.specs.Received.{pairRecords, pairFault, verdictFault, markFault, recordFault, faultAt, reached}
+use Rattle.file_reading.specs.Contents.{plain, mapped, Contents, fileBytes}
 use Rattle.file_reading.specs.Sound.{Written}
-use Rattle.file_reading.specs.File.{whole, refusedAt, setupFault, dealingFault, ofContents, ofReceived, ofDealing, readFile}
+use Rattle.file_reading.specs.File.{whole, refusedAt, setupFault, dealingFault, hasMap, mappedFault, ofContents, ofReceived, ofMapped, ofDealing, readFile}
 use Rattle.file_reading.proofs.Sound.{follows}
 
 abbrev front : List ℕ
@@ -52,11 +54,11 @@ contradicted = front ++ pv 0 3 ++ pv 1 1 ++ pv 2 0 ++ vd 0 1 ++ vd 1 1 ++ vd 2 1
 
 abbrev pub workedContents : Contents
 workedContents =
-    record { setup = ex; dealing = 1; holder = 1; g = 2 ∷ 4 ∷ []; h = 4 ∷ 3 ∷ []; values = 2 ∷ 1 ∷ 0 ∷ []; verdicts = 1 ∷ 1 ∷ 1 ∷ [] }
+    record { setup = ex; dealing = 1; holder = 1; g = 2 ∷ 4 ∷ []; h = 4 ∷ 3 ∷ []; values = 2 ∷ 1 ∷ 0 ∷ []; verdicts = 1 ∷ 1 ∷ 1 ∷ []; kind = plain }
 
 abbrev pub rejectedContents : Contents
 rejectedContents =
-    record { setup = ex; dealing = 1; holder = 1; g = 2 ∷ 4 ∷ []; h = 4 ∷ 3 ∷ []; values = 3 ∷ 1 ∷ 0 ∷ []; verdicts = 1 ∷ 0 ∷ 1 ∷ [] }
+    record { setup = ex; dealing = 1; holder = 1; g = 2 ∷ 4 ∷ []; h = 4 ∷ 3 ∷ []; values = 3 ∷ 1 ∷ 0 ∷ []; verdicts = 1 ∷ 0 ∷ 1 ∷ []; kind = plain }
 
 -- the first is the file of its contents
 pub worked-file : fileBytes workedContents ≡ worked
@@ -77,18 +79,18 @@ numbered =
 
 abbrev pub numberedContents : Contents
 numberedContents =
-    record { setup = ex; dealing = 513; holder = 1; g = 2 ∷ 4 ∷ []; h = 4 ∷ 3 ∷ []; values = 2 ∷ 1 ∷ 0 ∷ []; verdicts = 1 ∷ 1 ∷ 1 ∷ [] }
+    record { setup = ex; dealing = 513; holder = 1; g = 2 ∷ 4 ∷ []; h = 4 ∷ 3 ∷ []; values = 2 ∷ 1 ∷ 0 ∷ []; verdicts = 1 ∷ 1 ∷ 1 ∷ []; kind = plain }
 
 pub numbered-file : fileBytes numberedContents ≡ numbered
 unfolding tab tabFrom bytes
 numbered-file = refl
 
 pub worked-read : readFile worked ≡ whole workedContents
-unfolding sum every first firstFrom tab tabFrom allBelow isField dot expected differs saidReject isKept wordsAt pairFault verdictFault markFault recordFault faultAt reached judgementOf fateOf setupFault dealingFault ofContents ofReceived ofDealing readFile
+unfolding sum every first firstFrom tab tabFrom allBelow isField dot expected differs saidReject isKept wordsAt pairRecords pairFault verdictFault markFault recordFault faultAt reached judgementOf fateOf setupFault dealingFault hasMap mappedFault ofContents ofReceived ofMapped ofDealing readFile
 worked-read = refl
 
 pub numbered-read : readFile numbered ≡ whole numberedContents
-unfolding sum every first firstFrom tab tabFrom allBelow isField dot expected differs saidReject isKept wordsAt pairFault verdictFault markFault recordFault faultAt reached judgementOf fateOf setupFault dealingFault ofContents ofReceived ofDealing readFile
+unfolding sum every first firstFrom tab tabFrom allBelow isField dot expected differs saidReject isKept wordsAt pairRecords pairFault verdictFault markFault recordFault faultAt reached judgementOf fateOf setupFault dealingFault hasMap mappedFault ofContents ofReceived ofMapped ofDealing readFile
 numbered-read = refl
 
 -- the bytes of the first follow from its contents
@@ -98,16 +100,16 @@ worked-written = follows .written worked workedContents (below-vec 256 90 worked
 
 -- "`refused 11 at 82`"
 pub last-gone-read : readFile last-gone ≡ refusedAt 11 82
-unfolding sum every first firstFrom tab tabFrom allBelow isField dot expected differs saidReject isKept wordsAt pairFault verdictFault markFault recordFault faultAt reached judgementOf fateOf setupFault dealingFault ofContents ofReceived ofDealing readFile
+unfolding sum every first firstFrom tab tabFrom allBelow isField dot expected differs saidReject isKept wordsAt pairRecords pairFault verdictFault markFault recordFault faultAt reached judgementOf fateOf setupFault dealingFault hasMap mappedFault ofContents ofReceived ofMapped ofDealing readFile
 last-gone-read = refl
 
 pub rejected-read : readFile rejected ≡ whole rejectedContents
-unfolding sum every first firstFrom tab tabFrom allBelow isField dot expected differs saidReject isKept wordsAt pairFault verdictFault markFault recordFault faultAt reached judgementOf fateOf setupFault dealingFault ofContents ofReceived ofDealing readFile
+unfolding sum every first firstFrom tab tabFrom allBelow isField dot expected differs saidReject isKept wordsAt pairRecords pairFault verdictFault markFault recordFault faultAt reached judgementOf fateOf setupFault dealingFault hasMap mappedFault ofContents ofReceived ofMapped ofDealing readFile
 rejected-read = refl
 
 -- "`refused 13 at 90`"
 pub contradicted-read : readFile contradicted ≡ refusedAt 13 90
-unfolding sum every first firstFrom tab tabFrom allBelow isField dot expected differs saidReject isKept wordsAt pairFault verdictFault markFault recordFault faultAt reached judgementOf fateOf setupFault dealingFault ofContents ofReceived ofDealing readFile
+unfolding sum every first firstFrom tab tabFrom allBelow isField dot expected differs saidReject isKept wordsAt pairRecords pairFault verdictFault markFault recordFault faultAt reached judgementOf fateOf setupFault dealingFault hasMap mappedFault ofContents ofReceived ofMapped ofDealing readFile
 contradicted-read = refl
 
 -- "17, a PV or VD that isn't the next one due": a PV from a later sender, a VD while a PV is due, a VD of a later holder; a PV or VD again from one holder stays 10, also
@@ -123,7 +125,7 @@ pub record OutOfOrder : Type 0 where
   again-first : readFile (front ++ pv 0 2 ++ pv 1 1 ++ pv 2 0 ++ vd 0 1 ++ vd 0 2) ≡ refusedAt 10 74
 
 pub out-of-order : OutOfOrder
-unfolding sum every first firstFrom tab tabFrom allBelow isField dot expected differs saidReject isKept wordsAt pairFault verdictFault markFault recordFault faultAt reached judgementOf fateOf setupFault dealingFault ofContents ofReceived ofDealing readFile
+unfolding sum every first firstFrom tab tabFrom allBelow isField dot expected differs saidReject isKept wordsAt pairRecords pairFault verdictFault markFault recordFault faultAt reached judgementOf fateOf setupFault dealingFault hasMap mappedFault ofContents ofReceived ofMapped ofDealing readFile
 out-of-order =
     record {
       later-sender = refl;
@@ -134,4 +136,75 @@ out-of-order =
       verdict-at-the-end = refl;
       no-verdict-first = refl;
       again-first = refl;
+    }
+
+-- WITH A MAP: φ is (2) and the second random entries are 4 and 1, so that F_φ has the rows (6, 2), (4, 1)
+abbrev df : (holder phi : ℕ) → List ℕ
+df holder phi = 68 ∷ 70 ∷ 1 ∷ 0 ∷ holder ∷ 0 ∷ 0 ∷ 0 ∷ 6 ∷ 0 ∷ 1 ∷ 0 ∷ 2 ∷ 0 ∷ phi ∷ 0 ∷ []
+
+abbrev pf : (sender value : ℕ) → List ℕ
+pf sender value = 80 ∷ 70 ∷ 1 ∷ 0 ∷ sender ∷ 0 ∷ 1 ∷ 0 ∷ value ∷ 0 ∷ []
+
+abbrev pairs-sent : List ℕ
+pairs-sent = pv 0 2 ++ pv 1 1 ++ pv 2 0
+
+abbrev all-say : List ℕ
+all-say = vd 0 1 ++ vd 1 1 ++ vd 2 1
+
+abbrev pub tied : List ℕ
+tied = front ++ df 1 2 ++ pairs-sent ++ pf 0 3 ++ pf 1 4 ++ pf 2 5 ++ all-say
+
+abbrev pub tiedContents : Contents
+tiedContents =
+    record {
+      setup = ex;
+      dealing = 1;
+      holder = 1;
+      g = 2 ∷ 4 ∷ [];
+      h = 4 ∷ 3 ∷ [];
+      values = 2 ∷ 1 ∷ 0 ∷ [];
+      verdicts = 1 ∷ 1 ∷ 1 ∷ [];
+      kind = mapped (record { g = 0 ∷ 6 ∷ []; h = 1 ∷ 2 ∷ []; phi = 2 ∷ []; values = 3 ∷ 4 ∷ 5 ∷ [] });
+    }
+
+pub tied-file : fileBytes tiedContents ≡ tied
+unfolding tab tabFrom bytes
+tied-file = refl
+
+pub tied-read : readFile tied ≡ whole tiedContents
+unfolding sum every first firstFrom tab tabFrom allBelow isField dot expected differs saidReject isKept wordsAt pairRecords pairFault verdictFault markFault recordFault faultAt reached judgementOf imageAt differsIn mapHolds judgementMapped fateOf setupFault dealingFault hasMap mappedFault ofContents ofReceived ofMapped ofDealing readFile
+tied-read = refl
+
+-- "DF may come right after DL only; a holder other than DL's gets 5. With a DF, n PF come by sender between PV and VD, under the refusals of PV and 17; without one, a PF
+-- gets 8. A second DF gets 10 like a second DL"; the own verdict is held against the judgement of both dealings and the map
+pub record WithMaps : Type 0 where
+  map-fails : readFile (front ++ df 1 3 ++ pairs-sent ++ pf 0 3 ++ pf 1 4 ++ pf 2 5 ++ all-say) ≡ refusedAt 13 136
+  second-pair-fails : readFile (front ++ df 1 2 ++ pairs-sent ++ pf 0 3 ++ pf 1 4 ++ pf 2 6 ++ all-say) ≡ refusedAt 13 136
+  other-holder : readFile (front ++ df 0 2 ++ pairs-sent ++ pf 0 3 ++ pf 1 4 ++ pf 2 5 ++ all-say) ≡ refusedAt 5 36
+  map-of-7 : readFile (front ++ df 1 7 ++ pairs-sent ++ pf 0 3 ++ pf 1 4 ++ pf 2 5 ++ all-say) ≡ refusedAt 4 36
+  late-map : readFile (front ++ pv 0 2 ++ df 1 2 ++ pv 1 1 ++ pv 2 0 ++ all-say) ≡ refusedAt 8 46
+  second-map : readFile (front ++ df 1 2 ++ df 1 2 ++ pairs-sent ++ pf 0 3 ++ pf 1 4 ++ pf 2 5 ++ all-say) ≡ refusedAt 10 52
+  no-map : readFile (front ++ pairs-sent ++ pf 0 3 ++ pf 1 4 ++ pf 2 5 ++ all-say) ≡ refusedAt 8 66
+  mapped-first : readFile (front ++ df 1 2 ++ pf 0 3 ++ pf 1 4 ++ pf 2 5 ++ pairs-sent ++ all-say) ≡ refusedAt 17 52
+  verdict-first : readFile (front ++ df 1 2 ++ pairs-sent ++ all-say ++ pf 0 3 ++ pf 1 4 ++ pf 2 5) ≡ refusedAt 17 82
+  pair-again : readFile (front ++ df 1 2 ++ pairs-sent ++ pv 0 2 ++ pf 1 4 ++ pf 2 5 ++ all-say) ≡ refusedAt 10 82
+  mapped-again : readFile (front ++ df 1 2 ++ pairs-sent ++ pf 0 3 ++ pf 0 3 ++ pf 2 5 ++ all-say) ≡ refusedAt 10 92
+  ends-early : readFile (front ++ df 1 2 ++ pairs-sent ++ pf 0 3 ++ pf 1 4) ≡ refusedAt 11 102
+
+pub with-maps : WithMaps
+unfolding sum every first firstFrom tab tabFrom allBelow isField dot expected differs saidReject isKept wordsAt pairRecords pairFault verdictFault markFault recordFault faultAt reached judgementOf imageAt differsIn mapHolds judgementMapped fateOf setupFault dealingFault hasMap mappedFault ofContents ofReceived ofMapped ofDealing readFile
+with-maps =
+    record {
+      map-fails = refl;
+      second-pair-fails = refl;
+      other-holder = refl;
+      map-of-7 = refl;
+      late-map = refl;
+      second-map = refl;
+      no-map = refl;
+      mapped-first = refl;
+      verdict-first = refl;
+      pair-again = refl;
+      mapped-again = refl;
+      ends-early = refl;
     }

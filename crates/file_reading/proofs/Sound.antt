@@ -1,35 +1,40 @@
 -- Contents in order are read back from their file: no rule of its records holds, and what is received is what was sent. The other way round is law whole-bytes.
 -- reads-back, follows: the statements of specs/Sound.antt
 use mathlib.Core.Path.{_≡_, refl, sym, ap, _∙_}
-use mathlib.Core.Bool.{Bool, true, false, not, _&&_}
-use mathlib.Core.List.{List, [], _∷_, _++_, append-assoc}
+use mathlib.Core.Bool.{Bool, true, false, not, _&&_, false≢true}
+use mathlib.Core.List.{List, [], _∷_, _++_}
 use Prim.Native.Nat.{ℕ, zero, suc, _+_, _*_, _/_, _%_, _≤_, _<_}
+use native.Mathlib.Nat.{mul-le-mul}
 use native.Mathlib.Omega.{arith}
-use borrow.Author.Tests.{ne-eqb, lt-leb}
-use lib.Dec.{ltb}
+use borrow.Author.Tests.{eq-eqb, ne-eqb, lt-leb}
+use lib.Dec.{eqb, ltb}
 use lib.ListN.{length, drop, length-append}
-use lib.Seq.{drop-at}
+use lib.Seq.{drop-at, drop-drop}
+use Rattle.base.specs.Choice.{pick}
 use Rattle.base.specs.Rules.{refusal, Clear}
 use Rattle.base.specs.Search.{Vec}
 use Rattle.base.specs.Fill.{tab, tabFrom}
 use Rattle.base.specs.Matrix.{Below}
+use Rattle.base.proofs.Choice.{picked}
+use Rattle.base.proofs.Rules.{clear, none-applies}
 use Rattle.scheme.specs.Setup.{Setup, dim}
 use Rattle.scheme.specs.Calls.{limits}
 use Rattle.scheme.proofs.Calls.{limits-clear, limits-pos, below-vec, elements-clear}
 use Rattle.record_layouts.specs.Words.{bytes, Bytes}
 use Rattle.record_layouts.proofs.Words.{length-bytes, word-of}
 use Rattle.record_layouts.specs.declared.DealingRecord.{DealingRecord}
-use Rattle.record_layouts.specs.Records.{setupWords, dealingWords, pairWords, verdictWords, setupSize, dealingSize, setupAt, dealingAt, dealingG, dealingH, readSetupRules}
+use Rattle.record_layouts.specs.Records.{markPV, markPF, markDF, setupWords, dealingWords, mappedWords, allWords, pairLayoutOf, verdictWords, setupSize, dealingSize, mappedSize, setupAt, dealingAt, dealingG, dealingH, mappedPhi, readSetupRules, standingRules, dealingFaults, mappedLayout}
 use Rattle.record_layouts.proofs.Calls.{dim-small, matrix-small}
-use Rattle.record_layouts.proofs.Layouts.{dealing-at, row-at, column-at}
-use Rattle.record_layouts.proofs.ReadBack.{setup-at, setup-fair, dealing-fair}
+use Rattle.record_layouts.proofs.Layouts.{dealing-at, row-at, column-at, mapped-at, mapped-row-at, mapped-column-at, mapped-phi-at}
+use Rattle.record_layouts.proofs.ReadBack.{setup-at, setup-fair, dealing-fair, mapped-fair}
 use Rattle.file_records.specs.declared.Head.{Head}
-use Rattle.file_records.specs.Received.{faultAt, reached, place, valuesAt, verdictsAt, joined, sent, said, pairs, verdicts}
-use Rattle.file_records.proofs.Records.{size, not-refused, values-back, verdicts-back}
-use Rattle.file_reading.specs.Contents.{Contents, InOrder, numbers, head, fileBytes}
-use Rattle.file_reading.specs.File.{FileRead, whole, setupFault, dealingFault, contentsOf, ofContents, orRefused, ofReceived, readFile}
+use Rattle.file_records.specs.Received.{faultAt, reached, place, sentAt, verdictsAt, joined, sent, said, pairs, verdicts, received}
+use Rattle.file_records.proofs.Reading.{pairs-some}
+use Rattle.file_records.proofs.Records.{size, starts, not-refused, values-back, values2-back, verdicts-back}
+use Rattle.file_reading.specs.Contents.{Second, Kind, plain, mapped, Contents, isMapped, values2, OfKind, InOrder, numbers, head, mappedBytes, fileBytes}
+use Rattle.file_reading.specs.File.{FileRead, whole, setupFault, dealingFault, hasMap, mappedRules, mappedFault, firstByte, start, kindAt, contentsOf, ofContents, orRefused, ofReceived, readFile}
 use Rattle.file_reading.specs.Sound.{Written, ReadsBack, Follows}
-use Rattle.file_reading.proofs.Steps.{same-contents, setup-own, isSecond, deal-own, of-whole, goes-on, file-next, field-le}
+use Rattle.file_reading.proofs.Steps.{same-contents, setup-own, isSecond, deal-own, has-mark, map-none, map-own, of-whole, goes-on, file-next, field-le}
 use Rattle.file_reading.proofs.Whole.{whole-in-order, whole-bytes}
 
 and-false : (b : Bool) → (b && false) ≡ false
@@ -85,8 +90,11 @@ module _ (C : Contents) (ok : InOrder C) where
   abbrev dl : List ℕ
   dl = bytes (dealingWords (numbers C) (C .g) (C .h))
 
+  abbrev df : List ℕ
+  df = mappedBytes (numbers C) (C .kind)
+
   abbrev rest : List ℕ
-  rest = pairs (head C) (C .values) ++ verdicts (head C) (C .verdicts)
+  rest = received (head C) (C .values) (values2 (C .kind)) (C .verdicts)
 
   su-size : length su ≡ setupSize S
   su-size = omega (arith, length-bytes (setupWords S), ok .setup .matrix .size)
@@ -94,81 +102,237 @@ module _ (C : Contents) (ok : InOrder C) where
   dl-size : length dl ≡ dealingSize S
   dl-size = omega (arith, length-bytes (dealingWords x (C .g) (C .h)), length-append (C .g) (C .h), ok .row .size, ok .column .size)
 
+  df-size : length df ≡ pick (isMapped (C .kind)) (mappedSize S) 0
+  df-size = go (C .kind) (ok .second)
+    where
+      go : (k : Kind) → OfKind S k → length (mappedBytes x k) ≡ pick (isMapped k) (mappedSize S) 0
+      go plain o = refl
+      go (mapped y) o =
+          omega (
+            arith,
+            length-bytes (mappedWords x (y .g) (y .h) (y .phi)),
+            length-append (y .g ++ y .h) (y .phi),
+            length-append (y .g) (y .h),
+            o .row .size,
+            o .column .size,
+            o .map .size,
+          )
+
   limits-ok : Clear (limits S)
   limits-ok = limits-clear S (ok .setup .limits)
 
-  whole-size : length (fileBytes C) ≡ setupSize S + dealingSize S + length rest
-  whole-size = omega (arith, length-append (su ++ dl) rest, length-append su dl, su-size, dl-size)
-
-  from-setup : fileBytes C ≡ su ++ (dl ++ rest)
-  from-setup = append-assoc su dl rest
+  whole-size : length (fileBytes C) ≡ setupSize S + dealingSize S + pick (isMapped (C .kind)) (mappedSize S) 0 + length rest
+  whole-size = omega (arith, length-append su (dl ++ (df ++ rest)), length-append dl (df ++ rest), length-append df rest, su-size, dl-size, df-size)
 
   no-setup-fault : setupFault (fileBytes C) ≡ 0
   no-setup-fault =
       sym (setup-own (fileBytes C) (λ z. omega (arith, z, whole-size)))
-      ∙ ap (λ (s : List ℕ). refusal (readSetupRules s)) from-setup
-      ∙ setup-fair S (dl ++ rest) limits-ok (ok .setup .matrix .size) (elements-clear (S .p) (S .n * dim S) (S .M) (ok .setup .matrix))
+      ∙ setup-fair S (dl ++ (df ++ rest)) limits-ok (ok .setup .matrix .size) (elements-clear (S .p) (S .n * dim S) (S .M) (ok .setup .matrix))
 
-  behind : drop (setupSize S) (fileBytes C) ≡ dl ++ rest
-  behind = ap (drop (setupSize S)) from-setup ∙ drop-at su (dl ++ rest) (setupSize S) su-size
+  behind : drop (setupSize S) (fileBytes C) ≡ dl ++ (df ++ rest)
+  behind = drop-at su (dl ++ (df ++ rest)) (setupSize S) su-size
 
-  first-there : isSecond (dl ++ rest) ≡ false
-  first-there = rw (word-of (dealingWords x (C .g) (C .h)) rest 0 (omega arith)) (and-false (not (ltb (length (dl ++ rest)) 2)))
+  first-there : isSecond (dl ++ (df ++ rest)) ≡ false
+  first-there = rw (word-of (dealingWords x (C .g) (C .h)) (df ++ rest) 0 (omega arith)) (and-false (not (ltb (length (dl ++ (df ++ rest))) 2)))
+
+  -- the two numbers of DL, and of DF
+  numbers-clear : Clear (dealingFaults S x)
+  numbers-clear = (lt-leb (S .n) (C .holder) (ok .holder), (ne-eqb (C .dealing) 0 (λ z. omega (arith, z, ok .dealing .0)), tt))
 
   no-dealing-fault : dealingFault S (drop (setupSize S) (fileBytes C)) ≡ 0
   no-dealing-fault =
       rw behind
-      (sym (deal-own S (dl ++ rest) (λ z. omega (arith, z, length-append dl rest, dl-size)) first-there)
-      ∙ dealing-fair S x (C .g) (C .h) rest (ok .row .size) (ok .column .size)
-      (elements-clear (S .p) (dim S) (C .g) (ok .row), (elements-clear (S .p) (dim S) (C .h) (ok .column), (lt-leb (S .n) (C .holder) (ok .holder), (ne-eqb (C .dealing) 0 (λ z. omega (arith, z, ok .dealing .0)), tt)))))
+      (sym (deal-own S (dl ++ (df ++ rest)) (λ z. omega (arith, z, length-append dl (df ++ rest), dl-size)) first-there)
+      ∙ dealing-fair S x (C .g) (C .h) (df ++ rest) (ok .row .size) (ok .column .size)
+      (elements-clear (S .p) (dim S) (C .g) (ok .row), (elements-clear (S .p) (dim S) (C .h) (ok .column), numbers-clear)))
 
-  behind-both : drop (setupSize S + dealingSize S) (fileBytes C) ≡ rest
-  behind-both = drop-at (su ++ dl) rest (setupSize S + dealingSize S) (omega (arith, length-append su dl, su-size, dl-size))
+  behind-both : drop (firstByte S) (fileBytes C) ≡ df ++ rest
+  behind-both =
+      sym (drop-drop (dealingSize S) (setupSize S) (fileBytes C)) ∙ ap (drop (dealingSize S)) behind ∙ drop-at dl (df ++ rest) (dealingSize S) dl-size
+
+  some : 0 < S .n
+  some = ok .setup .limits .holders .0
+
+  -- the DF, or none
+  has : hasMap (df ++ rest) ≡ isMapped (C .kind)
+  has = go (C .kind) refl
+    where
+      go : (k : Kind) → C .kind ≡ k → hasMap (mappedBytes x k ++ rest) ≡ isMapped k
+      go plain e =
+          has-mark rest (omega (arith, size h (C .values) (values2 (C .kind)) (C .verdicts), some))
+          ∙ ap (λ (w : ℕ). eqb w markDF) (starts h (C .values) (values2 (C .kind)) (C .verdicts) some)
+      go (mapped y) e =
+          let ws = mappedWords x (y .g) (y .h) (y .phi) in
+          has-mark (bytes ws ++ rest) (omega (arith, length-append (bytes ws) rest, length-bytes ws))
+          ∙ ap (λ (w : ℕ). eqb w markDF) (word-of ws rest 0 (omega arith))
+
+  no-mapped-fault : mappedFault S x (df ++ rest) ≡ 0
+  no-mapped-fault = go (C .kind) (ok .second) has
+    where
+      go : (k : Kind) → OfKind S k → hasMap (mappedBytes x k ++ rest) ≡ isMapped k → mappedFault S x (mappedBytes x k ++ rest) ≡ 0
+      go plain o e = sym (map-none S x rest e)
+      go (mapped y) o e =
+          let t = bytes (mappedWords x (y .g) (y .h) (y .phi)) ++ rest in
+          let c = clear (standingRules mappedLayout S t) tt
+          (mapped-fair S x (y .g) (y .h) (y .phi) rest (o .row .size) (o .column .size) (o .map .size)
+          (elements-clear (S .p) (dim S) (y .g) (o .row),
+          (elements-clear (S .p) (dim S) (y .h) (o .column), (elements-clear (S .p) (S .l * S .l) (y .phi) (o .map), numbers-clear)))) in
+          let lists = c .1 .1 .1 in
+          let same = mapped-at x (y .g) (y .h) (y .phi) rest in
+          sym (map-own S x t e)
+          ∙ none-applies (mappedRules S x t) (
+            c .0,
+            (
+              c .1 .0,
+              (
+                c .1 .1 .0,
+                (
+                  lists .0,
+                  (
+                    lists .1 .0,
+                    (
+                      lists .1 .1 .0,
+                      (
+                        ap not (eq-eqb (dealingAt t .holder) (x .holder) (ap (λ (z : DealingRecord). z .holder) same)),
+                        (ap not (eq-eqb (dealingAt t .dealing) (x .dealing) (ap (λ (z : DealingRecord). z .dealing) same)), tt),
+                      ),
+                    ),
+                  ),
+                ),
+              ),
+            ),
+          )
+
+  behind-all : drop (start S (isMapped (C .kind))) (fileBytes C) ≡ rest
+  behind-all =
+      sym (drop-drop (pick (isMapped (C .kind)) (mappedSize S) 0) (firstByte S) (fileBytes C)) ∙ ap (drop (pick (isMapped (C .kind)) (mappedSize S) 0)) behind-both
+      ∙ drop-at df rest (pick (isMapped (C .kind)) (mappedSize S) 0) df-size
+
+  -- what is received by PF, where there is a DF
+  in-second : h .mapped ≡ true → Vec (S .p) (S .n) (values2 (C .kind))
+  in-second = go (C .kind) (ok .second)
+    where
+      go : (k : Kind) → OfKind S k → isMapped k ≡ true → Vec (S .p) (S .n) (values2 k)
+      go plain o e = absurd (false≢true e)
+      go (mapped y) o e = o .received
+
+  kind-back : kindAt S (isMapped (C .kind)) (df ++ rest) (sentAt h (S .n) rest) ≡ C .kind
+  kind-back = go (C .kind) (ok .second) (values2-back h (C .values) (values2 (C .kind)) (C .verdicts) (ok .received) in-second (ok .heard))
+    where
+      go : (k : Kind) → OfKind S k → (isMapped k ≡ true → sentAt h (S .n) rest ≡ values2 k)
+          → kindAt S (isMapped k) (mappedBytes x k ++ rest) (sentAt h (S .n) rest) ≡ k
+      go plain o e = refl
+      go (mapped y) o e =
+          let i = o .row .size in
+          let j = o .column .size in
+          let m = o .map .size in
+          rw (
+            mapped-row-at S x (y .g) (y .h) (y .phi) rest i j m,
+            mapped-column-at S x (y .g) (y .h) (y .phi) rest i j m,
+            mapped-phi-at S x (y .g) (y .h) (y .phi) rest i j m,
+            e refl,
+          ) refl
 
   reads : readFile (fileBytes C) ≡ whole C
   unfolding ofReceived
   reads =
       let s = fileBytes C in
       let n = S .n in
-      let R : List ℕ → FileRead = λ t.
-      orRefused (faultAt h t (reached h t)) (setupSize S + dealingSize S + place n (reached h t)) (ofContents (contentsOf S x (C .g) (C .h) (valuesAt n t) (verdictsAt n t)) (length s)) in
-      let D : (values heard : List ℕ) → FileRead = λ values heard. ofContents (contentsOf S x (C .g) (C .h) values heard) (length s) in
+      let m = isMapped (C .kind) in
+      let v2 = values2 (C .kind) in
+      let D : (values heard : List ℕ) → Kind → FileRead = λ values heard k. ofContents (contentsOf S x (C .g) (C .h) values heard k) (length s) in
+      let R : (t u : List ℕ) → FileRead = λ t u.
+      orRefused (faultAt h t (reached h t)) (start S m + place h (reached h t)) (D (sentAt h 0 t) (verdictsAt h t) (kindAt S m u (sentAt h n t))) in
+      let g = ofReceived S x (C .g) (C .h) in
       sym (of-whole C (length s) (ok .own)
-      ∙ ap (λ (v : List ℕ). D v (C .verdicts)) (sym (values-back h (C .values) (C .verdicts) (ok .received) (ok .heard)))
-      ∙ ap (λ (v : List ℕ). D (valuesAt n rest) v) (sym (verdicts-back h (C .values) (C .verdicts) (ok .received) (ok .heard)))
-      ∙ goes-on (faultAt h rest (reached h rest)) (setupSize S + dealingSize S + place n (reached h rest)) (D (valuesAt n rest) (verdictsAt n rest)) (not-refused h (C .values) (C .verdicts) (ok .received) (ok .heard))
-      ∙ ap R (sym behind-both)
-      ∙ file-next s no-setup-fault S (sym (ap setupAt from-setup ∙ setup-at S (dl ++ rest) (ok .setup .matrix .size))) no-dealing-fault
-      (sym (ap dealingAt behind ∙ dealing-at x (C .g) (C .h) rest))
-      (sym (ap (dealingG S) behind ∙ row-at S x (C .g) (C .h) rest (ok .row .size) (ok .column .size)))
-      (sym (ap (dealingH S) behind ∙ column-at S x (C .g) (C .h) rest (ok .row .size) (ok .column .size))))
+      ∙ ap (λ (v : List ℕ). D v (C .verdicts) (C .kind)) (sym (values-back h (C .values) v2 (C .verdicts) (ok .received) in-second (ok .heard)))
+      ∙ ap (λ (v : List ℕ). D (sentAt h 0 rest) v (C .kind)) (sym (verdicts-back h (C .values) v2 (C .verdicts) (ok .received) in-second (ok .heard)))
+      ∙ ap (λ (k : Kind). D (sentAt h 0 rest) (verdictsAt h rest) k) (sym kind-back)
+      ∙ goes-on (faultAt h rest (reached h rest)) (start S m + place h (reached h rest)) (D (sentAt h 0 rest) (verdictsAt h rest) (kindAt S m (df ++ rest) (sentAt h n rest)))
+      (not-refused h (C .values) v2 (C .verdicts) (ok .received) in-second (ok .heard))
+      ∙ ap (λ (t : List ℕ). R t (df ++ rest)) (sym behind-all)
+      ∙ ap (λ (u : List ℕ). R (drop (start S m) s) u) (sym behind-both)
+      ∙ ap (λ (b : Bool). g b s) (sym (ap hasMap behind-both ∙ has))
+      ∙ file-next s no-setup-fault S (sym (setup-at S (dl ++ (df ++ rest)) (ok .setup .matrix .size))) no-dealing-fault
+      (sym (ap dealingAt behind ∙ dealing-at x (C .g) (C .h) (df ++ rest)))
+      (sym (ap (dealingG S) behind ∙ row-at S x (C .g) (C .h) (df ++ rest) (ok .row .size) (ok .column .size)))
+      (sym (ap (dealingH S) behind ∙ column-at S x (C .g) (C .h) (df ++ rest) (ok .row .size) (ok .column .size)))
+      (ap (mappedFault S x) behind-both ∙ no-mapped-fault))
 
-  -- and it is within the limit of a file
+  -- and it is within the limit of a file: at most 1,034 bytes for SU, 70 for DL, 198 for DF, 640 for PV and PF, 256 for VD
   file-fits : length (fileBytes C) ≤ 4096
   file-fits =
       let L = ok .setup .limits in
-      omega (arith, whole-size, size h (C .values) (C .verdicts), matrix-small S L, dim-small S L, L .holders .1)
+      omega (
+        arith,
+        whole-size,
+        size h (C .values) (values2 (C .kind)) (C .verdicts),
+        pairs-some h .1,
+        matrix-small S L,
+        dim-small S L,
+        L .holders .1,
+        picked (λ k. k ≤ mappedSize S) (isMapped (C .kind)) (mappedSize S) 0 (omega arith) (omega arith),
+        mul-le-mul {n₁ = S .l} {m₁ = S .l} {n₂ = 8} {m₂ = 8} (L .secret .1) (L .secret .1),
+      )
+
+  -- every word of it is one of 16 bits
+  top : S .p ≤ 65521
+  top = field-le (S .p) (ok .setup .limits .field)
+
+  few : S .n ≤ 32
+  few = ok .setup .limits .holders .1
+
+  number : C .dealing < 65536
+  number = omega (arith, ok .dealing .1)
+
+  small : C .holder < 65536
+  small = omega (arith, ok .holder, few)
+
+  words : (k : ℕ) (l : List ℕ) → Vec (S .p) k l → Words l
+  words k l v = words-below (S .p) l (omega (arith, top)) (below-vec (S .p) k l (limits-pos S (ok .setup .limits)) v)
+
+  pairs-bytes : (mark : ℕ) → mark < 65536 → (values : List ℕ) → Vec (S .p) (S .n) values → Bytes (pairs mark h values)
+  unfolding tab
+  pairs-bytes mark m values v =
+      joined-bytes (S .n) (λ j. bytes (allWords (pairLayoutOf mark) (sent h values j))) (λ k l.
+      two-bytes (allWords (pairLayoutOf mark) (sent h values k)) (m, (number, (omega (arith, l, few), (small, (omega (arith, v .small k l, top), tt)))))) (S .n) 0 (omega arith)
+
+  verdicts-bytes : Bytes (verdicts h (C .verdicts))
+  unfolding tab
+  verdicts-bytes =
+      joined-bytes (S .n) (λ j. bytes (verdictWords (said h (C .verdicts) j))) (λ k l.
+      two-bytes (verdictWords (said h (C .verdicts) k)) (omega arith, (number, (omega (arith, l, few), (omega (arith, ok .heard .small k l), tt))))) (S .n) 0 (omega arith)
+
+  -- of a DF and the PF
+  map-bytes : (k : Kind) → OfKind S k → Bytes (mappedBytes x k) × Bytes (pick (isMapped k) (pairs markPF h (values2 k)) [])
+  map-bytes plain o = (λ k. omega arith, λ k. omega arith)
+  map-bytes (mapped y) o = (
+    two-bytes (mappedWords x (y .g) (y .h) (y .phi)) (
+      omega arith,
+      (
+        number,
+        (
+          small,
+          words-append (y .g ++ y .h) (y .phi) (words-append (y .g) (y .h) (words (dim S) (y .g) (o .row)) (words (dim S) (y .h) (o .column)))
+          (words (S .l * S .l) (y .phi) (o .map)),
+        ),
+      ),
+    ),
+    pairs-bytes markPF (omega arith) (y .values) (o .received),
+  )
 
   all-bytes : Bytes (fileBytes C)
-  unfolding tab
   all-bytes =
       let L = ok .setup .limits in
-      let top : S .p ≤ 65521 = field-le (S .p) (L .field) in
-      let words : (k : ℕ) (l : List ℕ) → Vec (S .p) k l → Words l = λ k l v. words-below (S .p) l (omega (arith, top)) (below-vec (S .p) k l (limits-pos S L) v) in
-      let number : C .dealing < 65536 = omega (arith, ok .dealing .1) in
-      let few : C .setup .n ≤ 32 = L .holders .1 in
-      let small : C .holder < 65536 = omega (arith, ok .holder, few) in
-      let pair : ℕ → List ℕ = λ j. pairWords (sent h (C .values) j) in
-      let verdict : ℕ → List ℕ = λ j. verdictWords (said h (C .verdicts) j) in
-      below-append 256 (su ++ dl) rest
-      (below-append 256 su dl
+      let map = map-bytes (C .kind) (ok .second) in
+      let second = pick (isMapped (C .kind)) (pairs markPF h (values2 (C .kind))) [] in
+      below-append 256 su (dl ++ (df ++ rest))
       (two-bytes (setupWords S) (omega arith, (omega (arith, top), (omega (arith, L .secret .1), (omega (arith, L .random .1), (omega (arith, few), words (S .n * dim S) (S .M) (ok .setup .matrix)))))))
-      (two-bytes (dealingWords x (C .g) (C .h)) (omega arith, (number, (small, words-append (C .g) (C .h) (words (dim S) (C .g) (ok .row)) (words (dim S) (C .h) (ok .column)))))))
-      (below-append 256 (pairs h (C .values)) (verdicts h (C .verdicts))
-      (joined-bytes (S .n) (λ j. bytes (pair j)) (λ k l.
-      two-bytes (pair k) (omega arith, (number, (omega (arith, l, few), (small, (omega (arith, ok .received .small k l, top), tt)))))) (S .n) 0 (omega arith))
-      (joined-bytes (S .n) (λ j. bytes (verdict j)) (λ k l.
-      two-bytes (verdict k) (omega arith, (number, (omega (arith, l, few), (omega (arith, ok .heard .small k l), tt))))) (S .n) 0 (omega arith)))
+      (below-append 256 dl (df ++ rest)
+      (two-bytes (dealingWords x (C .g) (C .h)) (omega arith, (number, (small, words-append (C .g) (C .h) (words (dim S) (C .g) (ok .row)) (words (dim S) (C .h) (ok .column))))))
+      (below-append 256 df rest (map .0)
+      (below-append 256 (pairs markPV h (C .values)) (second ++ verdicts h (C .verdicts)) (pairs-bytes markPV (omega arith) (C .values) (ok .received))
+      (below-append 256 second (verdicts h (C .verdicts)) (map .1) verdicts-bytes))))
 
 pub reads-back : ReadsBack
 reads-back C ok = record { bytes = all-bytes C ok; fits = file-fits C ok; back = reads C ok }

@@ -18,7 +18,7 @@ use Rattle.base.proofs.Rules.{none-applies}
 use Rattle.base.proofs.Search.{first-missing}
 use Rattle.base.proofs.Fill.{getD-tab, tab-is}
 use Rattle.field.specs.Dot.{at}
-use Rattle.record_layouts.specs.Words.{bytes, Bytes}
+use Rattle.record_layouts.specs.Words.{bytes, wordAt, Bytes}
 use Rattle.record_layouts.proofs.Words.{length-bytes, word-of, bytes-shown}
 use Rattle.record_layouts.specs.Records.{markPV, markPF, pairSize, verdictSize, allWords, pairLayoutOf, verdictWords, pairAt, verdictAt}
 use Rattle.record_layouts.specs.declared.PairRecord.{PairRecord}
@@ -200,6 +200,13 @@ module _ (h : Head) (values values2 heard : List ℕ) where
       let w = pair-in markPV h values (between ++ verdicts h heard) j l in
       let e : place h (0 + j) ≡ 10 * j = omega (arith, pairs-some h .0) in
       (w .0, rw e (w .1))
+
+  -- they begin with a PV
+  pub starts : 0 < h .n → wordAt t 0 ≡ markPV
+  starts some =
+      let w = pair-there 0 some in
+      let e : place h (0 + 0) ≡ 0 = omega arith in
+      ap (λ (a : ℕ). wordAt (drop a t) 0) (sym e) ∙ ap (λ (u : List ℕ). wordAt u 0) (w .1) ∙ word-of (pairWords markPV (sent h values 0)) (w .0) 0 (omega arith)
 
   mapped-there : h .mapped ≡ true → (j : ℕ) → j < h .n → (u : List ℕ) × (drop (place h (h .n + j)) t ≡ bytes (pairWords markPF (sent h values2 j)) ++ u)
   mapped-there m j l =
