@@ -48,7 +48,7 @@ dot-tab d u f = dot-ext d u _ f (λ k l. getD-tab d f 0 k l)
 dot-reduced : (p d : ℕ) (u f : ℕ → ℕ) → dot d u (at (tab d (λ c. f c % p))) % p ≡ dot d u f % p
 dot-reduced p d u f = ap (λ z. z % p) (dot-tab d u _) ∙ dot-mod-right p d u _ f (λ j l. mod-mod (f j) p)
 
-combine-tab : (p m : ℕ) (c x : ℕ → ℕ) → combine p (tab m c) (tab m x) ≡ dot m c x % p
+pub combine-tab : (p m : ℕ) (c x : ℕ → ℕ) → combine p (tab m c) (tab m x) ≡ dot m c x % p
 unfolding combine
 combine-tab p m c x =
     ap (λ k. dot k (at (tab m c)) (at (tab m x)) % p) (length-tab m c)
@@ -212,6 +212,14 @@ module _ (S : Setup) (group : ℕ) {I : Type 0} (D : I → Dealing) (done : Done
   unfolding vectorOf
   array-at t b k h l =
       ap (λ c. at c k) (array-column t b h) ∙ getD-take (S .l) (vectorOf t b) k 0 l ∙ getD-tab (dim S) _ 0 k (omega arith)
+
+  -- So position k of column b of the array found, whoever found it, is what b's row over the group makes of the members' h
+  pub array-by-row : (F : Found S group D) (t : I) (b k : ℕ) → b < S .l → k < S .l
+      → at (column (F .array t) b) k
+      ≡ dot (length (members (S .n) (holds group))) (at (theRow S (holds group) b)) (λ a. at (D t .h (at (members (S .n) (holds group)) a)) k) % S .p
+  unfolding behind ms
+  array-by-row F t b k h l =
+      ap (λ A. at (column A b) k) (only S group det (D t) _ _ (F .one t .array) (array-is t) (F .one t .agrees) (array-agrees t)) ∙ array-at t b k h l
 
   -- WHAT IS HANDED IN
   module _ (ts : Terms I) (lim : InLimits S ts) where
