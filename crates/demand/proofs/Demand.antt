@@ -517,7 +517,7 @@ opens-known S group D F A same ts openers handed out hand room sub =
     }
 
 -- an entry of F is one of the lent ones, or 0 past their ends
-dealt-small : (S : Setup) (secrets random : List ℕ) → DealOk S secrets random → (k b : ℕ) → k < dim S → b < dim S → entry (dim S) (dealt S secrets random) k b < S .p
+pub dealt-small : (S : Setup) (secrets random : List ℕ) → DealOk S secrets random → (k b : ℕ) → k < dim S → b < dim S → entry (dim S) (dealt S secrets random) k b < S .p
 unfolding dealt dealtEntry
 dealt-small S secrets random ok k b hk hb =
     rw (getD-tab (dim S * dim S) (flat (dim S) (dealtEntry S secrets random)) 0 (k * dim S + b) (digits-lt hk hb), ← flat-at (dim S) (dealtEntry S secrets random) k b hb)
