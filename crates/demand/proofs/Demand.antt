@@ -539,7 +539,7 @@ module _ (S : Setup) (secrets random : List ℕ) (D : Dealing) (hon : Honest S s
     dealing-ok = deal-ok S secrets random i (hon .lentG) (hon .lentH) not-declined .0
 
   -- with any holder the inputs of the dealing are known to be in order
-  pub honest-from : (i : ℕ) → i < S .n → From S (dealt S secrets random) D
+  honest-from : (i : ℕ) → i < S .n → From S (dealt S secrets random) D
   honest-from i l =
       record {
         setup = dealing-ok i l .setup;
@@ -556,7 +556,7 @@ module _ (S : Setup) (secrets random : List ℕ) (D : Dealing) (hon : Honest S s
   all-said : (i j : ℕ) → i < S .n → j < S .n → at (D .verdicts i) j ≡ 1
   all-said i j l m = hon .said i j l m ∙ ap (λ (a : Answer). at (a .values) 0) (accepted′ j m)
 
-  pub keep′ : (i : ℕ) → i < S .n → Keeps S D i
+  keep′ : (i : ℕ) → i < S .n → Keeps S D i
   keep′ i l =
       record {
         judged = accepted′ i l;

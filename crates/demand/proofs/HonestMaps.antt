@@ -11,7 +11,7 @@ use native.Mathlib.Omega.{arith}
 use borrow.Author.Tests.{lt-ltb}
 use lib.Dec.{ltb}
 use lib.Arith.{digits-lt}
-use lib.ListN.{length, replicate, length-replicate}
+use lib.ListN.{replicate, length-replicate}
 use Rattle.base.specs.Choice.{pick}
 use Rattle.base.specs.Rules.{Answer, refusal, given}
 use Rattle.base.specs.Search.{Vec}
@@ -19,17 +19,17 @@ use Rattle.base.specs.Fill.{tab}
 use Rattle.base.specs.Matrix.{entry, flat}
 use Rattle.base.proofs.Fill.{length-tab, getD-tab, tab-ext, tab-vec, flat-at}
 use Rattle.base.proofs.Rules.{not-refused}
-use Rattle.field.specs.Dot.{at, dot}
+use Rattle.field.specs.Dot.{at}
 use Rattle.field.proofs.Dot.{dot-comm, dot-ext}
 use Rattle.scheme.specs.Setup.{Setup, dim, row}
 use Rattle.scheme.specs.Answers.{accepts, yes, paperJudgement}
 use Rattle.scheme.specs.Dealing.{dealt, partG, partH, pairValue, imageAt, image, mappedEntry, dealtMapped}
-use Rattle.scheme.specs.Calls.{Buffers, dealRules, dealMappedRules, dealMappedLeft, secondDealt, judgeCall, judgeMappedCall, pairValueCall, outcomeLeft, determinesCall}
+use Rattle.scheme.specs.Calls.{Buffers, dealRules, dealMappedRules, dealMappedLeft, secondDealt, judgeMappedCall, pairValueCall, outcomeLeft, determinesCall}
 use Rattle.scheme.proofs.Calls.{limits-pos, below-vec, determines-ok, DealOk, deal-accepts, DealMappedOk, dealMapped-ok, dealMapped-accepts, judgeMapped-accepts, pairValue-accepts}
 use Rattle.scheme.proofs.Verdicts.{mapped-when}
-use Rattle.demand.specs.Demand.{Dealing, Member, Done, Found, Honest, column, ExactlyOne, arrayDealt}
-use Rattle.demand.specs.Maps.{MappedDealing, firstOf, secondOf, Which, plain, first, second, together, KeepsMapped, DoneWithMaps, MapInputs, HonestMapped, arrayMapped, HonestMappedFound, arraysDealt, MapFamilyFound, Demand3WithMaps}
-use Rattle.demand.proofs.Demand.{demand3, From, judge-fits, pair-right, accepted, settles, block-one, block-found, opens-known, dealt-small, keep′, group-from}
+use Rattle.demand.specs.Demand.{Dealing, Done, Found, Honest}
+use Rattle.demand.specs.Maps.{MappedDealing, firstDealing, secondDealing, Which, plain, first, second, together, KeepsMapped, DoneWithMaps, MapInputs, HonestMapped, HonestMappedFound, arraysDealt, MapFamilyFound, Demand3WithMaps}
+use Rattle.demand.proofs.Demand.{demand3, From, judge-fits, pair-right, accepted, settles, block-one, block-found, opens-known, dealt-small, group-from}
 use Rattle.demand.proofs.Honest.{run, run-honest}
 use Rattle.demand.proofs.Maps.{map-of-sum, keeps-first, keeps-second, both-done, found-with-maps, without-maps, plain-found}
 
@@ -88,7 +88,7 @@ module _ (S : Setup) (X : MapInputs) (T : MappedDealing) (hon : HonestMapped S X
         deal-accepts S (X .secrets) (X .random) i (hon .buffers .g) (hon .buffers .h) (inputs .first) (sized .g) (sized .h) l
 
   -- with any holder the inputs are known to be in order
-  first-from : (i : ℕ) → i < S .n → From S F (firstOf T)
+  first-from : (i : ℕ) → i < S .n → From S F (firstDealing T)
   first-from i l =
       record {
         setup = inputs i l .first .setup;
@@ -99,7 +99,7 @@ module _ (S : Setup) (X : MapInputs) (T : MappedDealing) (hon : HonestMapped S X
         arrived = hon .arrived;
       }
 
-  second-from : (i : ℕ) → i < S .n → From S F2 (secondOf T)
+  second-from : (i : ℕ) → i < S .n → From S F2 (secondDealing T)
   second-from i l =
       record {
         setup = inputs i l .first .setup;
@@ -120,10 +120,13 @@ module _ (S : Setup) (X : MapInputs) (T : MappedDealing) (hon : HonestMapped S X
   accepted′ i l =
       let A = first-from i l in
       let B = second-from i l in
-      rw (hon .one-map i l, judgeMapped-accepts S (T .h i) (T .values i) (X .phi) (T .h2 i) (T .values2 i)
-      (record { first = judge-fits S F (firstOf T) A i l; map = inputs i l .map; second = judge-fits S F2 (secondOf T) B i l }))
+      rw (
+        hon .one-map i l,
+        judgeMapped-accepts S (T .h i) (T .values i) (X .phi) (T .h2 i) (T .values2 i)
+            (record { first = judge-fits S F (firstDealing T) A i l; map = inputs i l .map; second = judge-fits S F2 (secondDealing T) B i l }),
+      )
       (ap paperJudgement (mapped-when S (T .h i) (T .values i) (X .phi) (T .h2 i) (T .values2 i)
-      (record { first = pair-right S F (firstOf T) A i l; second = pair-right S F2 (secondOf T) B i l; map = holds-map i l })))
+      (record { first = pair-right S F (firstDealing T) A i l; second = pair-right S F2 (secondDealing T) B i l; map = holds-map i l })))
 
   all-said : (i j : ℕ) → i < S .n → j < S .n → at (T .verdicts i) j ≡ 1
   all-said i j l m = hon .said i j l m ∙ ap (λ (a : Answer). at (a .values) 0) (accepted′ j m)
@@ -133,10 +136,10 @@ module _ (S : Setup) (X : MapInputs) (T : MappedDealing) (hon : HonestMapped S X
       record {
         judged = accepted′ i l;
         lent = hon .lent;
-        settled = settles S F (firstOf T) (first-from i l) i l (hon .lent) (hon .room) (hon .heard i l) (λ j m. all-said i j l m);
+        settled = settles S F (firstDealing T) (first-from i l) i l (hon .lent) (hon .room) (hon .heard i l) (λ j m. all-said i j l m);
         share = hon .share i l;
         lent2 = hon .lent2;
-        settled2 = settles S F2 (secondOf T) (second-from i l) i l (hon .lent2) (hon .room2) (hon .heard i l) (λ j m. all-said i j l m);
+        settled2 = settles S F2 (secondDealing T) (second-from i l) i l (hon .lent2) (hon .room2) (hon .heard i l) (λ j m. all-said i j l m);
         share2 = hon .share2 i l;
       }
 
@@ -145,10 +148,10 @@ module _ (S : Setup) (X : MapInputs) (T : MappedDealing) (hon : HonestMapped S X
     holder : 0 < S .n
     holder = determines-ok S group e .0 .setup .limits .holders .0
 
-    pub group-first : From S F (firstOf T)
+    pub group-first : From S F (firstDealing T)
     group-first = first-from 0 holder
 
-    pub group-second : From S F2 (secondOf T)
+    pub group-second : From S F2 (secondDealing T)
     group-second = second-from 0 holder
 
   honest-mapped : HonestMappedFound S X T
@@ -167,11 +170,11 @@ module _ (S : Setup) (X : MapInputs) (T : MappedDealing) (hon : HonestMapped S X
           received = hon .received;
           arrived = hon .arrived;
           heard = hon .heard;
-          said = λ i j l m. all-said i j l m ∙ ap (λ (a : Answer). at (a .values) 0) (sym (accepted S F (firstOf T) (first-from j m) j m));
+          said = λ i j l m. all-said i j l m ∙ ap (λ (a : Answer). at (a .values) 0) (sym (accepted S F (firstDealing T) (first-from j m) j m));
           share = hon .share;
         };
-        array = λ group e. block-one S F (firstOf T) (group-first group e) group e (λ i m. keeps-first S T i (keep-both i (m .0)));
-        array2 = λ group e. block-one S F2 (secondOf T) (group-second group e) group e (λ i m. keeps-second S T i (keep-both i (m .0)));
+        array = λ group e. block-one S F (firstDealing T) (group-first group e) group e (λ i m. keeps-first S T i (keep-both i (m .0)));
+        array2 = λ group e. block-one S F2 (secondDealing T) (group-second group e) group e (λ i m. keeps-second S T i (keep-both i (m .0)));
         tied = λ b h.
             getD-tab (S .l) (λ b. tab (S .l) (λ k. entry (dim S) F2 k b)) [] b h
             ∙ map-column S F (X .phi) (X .random2) b h

@@ -10,7 +10,6 @@ use native.Mathlib.Nat.{mod-mod}
 use native.Mathlib.Omega.{arith}
 use lib.ListN.{length}
 use Rattle.base.specs.Rules.{Answer, refusal, given}
-use Rattle.base.specs.Fill.{tab}
 use Rattle.base.specs.Matrix.{entry}
 use Rattle.base.proofs.Fill.{getD-tab, tab-is, tab-ext}
 use Rattle.base.proofs.Rules.{not-refused}
@@ -25,8 +24,8 @@ use Rattle.scheme.proofs.Calls.{judge-accepts, judgeMapped-ok}
 use Rattle.scheme.proofs.Verdicts.{accept-when, MappedMeans, mapped-means}
 use Rattle.scheme.proofs.Members.{member-at}
 use Rattle.scheme.proofs.Sets.{theRow}
-use Rattle.demand.specs.Demand.{Dealing, Member, Keeps, Done, Terms, Handed, Array, column, secretsOver, Opens, Refused, by-four, by-seven, Found}
-use Rattle.demand.specs.Maps.{MappedDealing, firstOf, secondOf, Which, plain, first, second, together, oneColumn, KeepsMapped, DoneWithMaps, firsts, seconds, SecretAndMap, FoundWithMaps}
+use Rattle.demand.specs.Demand.{Dealing, Member, Keeps, Done, Terms, Handed, column, secretsOver, Opens, Refused, by-four, by-seven, Found}
+use Rattle.demand.specs.Maps.{MappedDealing, firstDealing, secondDealing, Which, plain, first, second, together, oneColumn, KeepsMapped, DoneWithMaps, firsts, seconds, SecretAndMap, FoundWithMaps}
 use Rattle.demand.proofs.Demand.{demand3, combine-tab, array-by-row}
 
 -- the map of a sum with constants c, when every y a is position k of the map of x a, and z is that sum of the x a
@@ -56,7 +55,7 @@ module _ (S : Setup) (h values phi h2 values2 : List ℕ) (e : judgeMappedCall S
       rw (judge-accepts S h2 values2 (ok .second)) (ap paperJudgement (accept-when S h2 values2 (told .second)))
 
 -- a member that kept its shares of both kept those of each
-pub keeps-first : (S : Setup) (T : MappedDealing) (i : ℕ) → KeepsMapped S T i → Keeps S (firstOf T) i
+pub keeps-first : (S : Setup) (T : MappedDealing) (i : ℕ) → KeepsMapped S T i → Keeps S (firstDealing T) i
 keeps-first S T i k =
     record {
       judged = accepts-first S (T .h i) (T .values i) (T .phi i) (T .h2 i) (T .values2 i) (k .judged);
@@ -65,7 +64,7 @@ keeps-first S T i k =
       share = k .share;
     }
 
-pub keeps-second : (S : Setup) (T : MappedDealing) (i : ℕ) → KeepsMapped S T i → Keeps S (secondOf T) i
+pub keeps-second : (S : Setup) (T : MappedDealing) (i : ℕ) → KeepsMapped S T i → Keeps S (secondDealing T) i
 keeps-second S T i k =
     record {
       judged = accepts-second S (T .h i) (T .values i) (T .phi i) (T .h2 i) (T .values2 i) (k .judged);

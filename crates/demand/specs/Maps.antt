@@ -2,7 +2,7 @@
 -- dealings with a map together. Like Demand.antt it is stated over the calls' own definitions, so that nothing is assumed which a call does not check;
 -- proofs/Maps.antt and proofs/HonestMaps.antt prove it. Quoted lines are A7's, but for those marked as of another document. The map itself, `image`, is
 -- defined in crate scheme (Dealing.antt): φ is ℓ by ℓ and by rows, and position k of the map of a vector is row k of φ times the vector's first ℓ entries.
--- MappedDealing: a dealing with a map, as it ended at each holder; firstOf, secondOf: its two dealings, as Demand.antt has a dealing
+-- MappedDealing: a dealing with a map, as it ended at each holder; firstDealing, secondDealing: its two dealings, as Demand.antt has a dealing
 -- Which: a plain dealing, or the first or the second of a dealing with a map; together: all dealings as one family
 -- KeepsMapped: a member kept its shares of both by the rules; DoneWithMaps: what was done before
 -- oneColumn: a list of one column by itself; firsts, seconds: a list over dealings with a map, taken from their first or their second dealings
@@ -43,11 +43,11 @@ pub record MappedDealing : Type 0 where
   pub shares : ℕ → List ℕ
   pub shares2 : ℕ → List ℕ
 
-abbrev pub firstOf : MappedDealing → Dealing
-firstOf T = record { g = T .g; h = T .h; values = T .values; verdicts = T .verdicts; shares = T .shares }
+abbrev pub firstDealing : MappedDealing → Dealing
+firstDealing T = record { g = T .g; h = T .h; values = T .values; verdicts = T .verdicts; shares = T .shares }
 
-abbrev pub secondOf : MappedDealing → Dealing
-secondOf T = record { g = T .g2; h = T .h2; values = T .values2; verdicts = T .verdicts; shares = T .shares2 }
+abbrev pub secondDealing : MappedDealing → Dealing
+secondDealing T = record { g = T .g2; h = T .h2; values = T .values2; verdicts = T .verdicts; shares = T .shares2 }
 
 -- plain dealings are a family over any index I, dealings with a map a family over any index K
 pub data Which (I K : Type 0) : Type 0 where
@@ -57,8 +57,8 @@ pub data Which (I K : Type 0) : Type 0 where
 
 abbrev pub together : {I K : Type 0} → (I → Dealing) → (K → MappedDealing) → Which I K → Dealing
 together D T (plain t) = D t
-together D T (first t) = firstOf (T t)
-together D T (second t) = secondOf (T t)
+together D T (first t) = firstDealing (T t)
+together D T (second t) = secondDealing (T t)
 
 -- As Keeps of Demand.antt, with the judgement of both dealings: it "checks its pair values too, and checks that the first ℓ entries of the second h are the
 -- map of those of the first". Source document 000, figure 4, step 5: "If all players said Accept", each keeps its shares of both: the outcome call on the
@@ -154,15 +154,15 @@ pub record HonestMapped (S : Setup) (X : MapInputs) (T : MappedDealing) : Type 0
 abbrev pub arrayMapped : Setup → MapInputs → Array
 arrayMapped S X = tab (S .l) (λ b. tab (S .l) (λ k. entry (dim S) (secondDealt S (X .secrets) (X .random) (X .phi) (X .random2)) k b))
 
--- the mission's "everyone accepts, and the array is the one dealt", of both dealings and for every group that determines the secrets; the second array
--- is the map of the first; and such a run is one that Demand3WithMaps speaks of
+-- the mission's "everyone accepts, and the array is the one dealt", of both dealings and for every group that determines the secrets; and the second array
+-- is the map of the first
 pub record HonestMappedFound (S : Setup) (X : MapInputs) (T : MappedDealing) : Type 0 where
   pub accept : (i : ℕ) → i < S .n → judgeMappedCall S (T .h i) (T .values i) (T .phi i) (T .h2 i) (T .values2 i) ≡ accepts
   pub keep : (i : ℕ) → i < S .n → KeepsMapped S T i
   -- the first dealing by itself is one of Demand.antt where all follow the rules
-  pub honest : Honest S (X .secrets) (X .random) (firstOf T)
-  pub array : (group : ℕ) → determinesCall S group ≡ yes → ExactlyOne S group (firstOf T) (arrayDealt S (X .secrets) (X .random))
-  pub array2 : (group : ℕ) → determinesCall S group ≡ yes → ExactlyOne S group (secondOf T) (arrayMapped S X)
+  pub honest : Honest S (X .secrets) (X .random) (firstDealing T)
+  pub array : (group : ℕ) → determinesCall S group ≡ yes → ExactlyOne S group (firstDealing T) (arrayDealt S (X .secrets) (X .random))
+  pub array2 : (group : ℕ) → determinesCall S group ≡ yes → ExactlyOne S group (secondDealing T) (arrayMapped S X)
   pub tied : (b : ℕ) → b < S .l → column (arrayMapped S X) b ≡ image S (X .phi) (column (arrayDealt S (X .secrets) (X .random)) b)
 
 abbrev pub arraysDealt : Setup → {I K : Type 0} → (secrets random : I → List ℕ) → (K → MapInputs) → Which I K → Array
