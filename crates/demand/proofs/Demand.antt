@@ -24,18 +24,17 @@ use Rattle.base.proofs.Choice.{and-left, and-right}
 use Rattle.base.proofs.Search.{every-at, every-all, first-is, firstVec-sound, firstVec-complete}
 use Rattle.base.proofs.Fill.{length-tab, getD-tab, tab-is, tab-ext, tab-vec, flat-at}
 use Rattle.base.proofs.Matrix.{below-is}
-use Rattle.field.specs.Prime.{Prime}
 use Rattle.field.specs.Dot.{at, dot}
 use Rattle.field.proofs.Dot.{dot-comm, dot-ext, dot-mod-right, dot-assoc, row-reads}
-use Rattle.scheme.specs.Setup.{Setup, dim, row}
+use Rattle.scheme.specs.Setup.{Setup, dim, row, IsSetup}
 use Rattle.scheme.specs.Answers.{accepts, kept, yes, inconsistent, paperJudgement}
 use Rattle.scheme.specs.Dealing.{place, dealtEntry, dealt, partG, partH, pairValue, expected, fateOf, outcome, shares}
 use Rattle.scheme.specs.Sets.{holds, members, rowAt, hasRow, determines}
 use Rattle.scheme.specs.Opening.{gives, opening, openedBy, combine}
-use Rattle.scheme.specs.Calls.{judgeCall, judgeRules, outcomeRules, determinesCall, openRules, openCall, openLeft, openAnswer, combineRules, combineCall, pairValueRules, dealRules}
+use Rattle.scheme.specs.Calls.{pairValueCall, judgeCall, judgeRules, outcomeCall, outcomeRules, determinesCall, openRules, openCall, openLeft, openAnswer, combineRules, combineCall, pairValueRules, dealRules}
 use Rattle.demand.specs.Demand.{Dealing, Member, Keeps, Done, Terms, InLimits, constants, sharesOver, Present, Handed, handedIn, Array, column, IsArray, AgreesAt, Agrees, ExactlyOne, secretsOver, Opens, Refused, by-four, by-seven, Found, Honest, arrayDealt, HonestFound, FamilyFound, Demand3}
 use Rattle.base.proofs.Rules.{not-refused}
-use Rattle.scheme.proofs.Calls.{limits-prime, limits-pos, SetOk, determines-ok, judge-accepts, outcome-ok, outcome-accepts, open-by-shares, combine-accepts, DealOk, deal-ok, below-vec}
+use Rattle.scheme.proofs.Calls.{limits-prime, limits-pos, SetOk, determines-ok, JudgeOk, judge-accepts, outcome-ok, outcome-accepts, open-by-shares, combine-accepts, DealOk, deal-ok, below-vec}
 use Rattle.scheme.proofs.Verdicts.{accept-means, accept-when, kept-means, kept-when}
 use Rattle.scheme.proofs.Members.{member-at, place-of, members-wide}
 use Rattle.scheme.proofs.Sets.{theRow, theRow-is, same-secrets}
@@ -49,7 +48,7 @@ dot-tab d u f = dot-ext d u _ f (λ k l. getD-tab d f 0 k l)
 dot-reduced : (p d : ℕ) (u f : ℕ → ℕ) → dot d u (at (tab d (λ c. f c % p))) % p ≡ dot d u f % p
 dot-reduced p d u f = ap (λ z. z % p) (dot-tab d u _) ∙ dot-mod-right p d u _ f (λ j l. mod-mod (f j) p)
 
-combine-tab : (p m : ℕ) (c x : ℕ → ℕ) → combine p (tab m c) (tab m x) ≡ dot m c x % p
+pub combine-tab : (p m : ℕ) (c x : ℕ → ℕ) → combine p (tab m c) (tab m x) ≡ dot m c x % p
 unfolding combine
 combine-tab p m c x =
     ap (λ k. dot k (at (tab m c)) (at (tab m x)) % p) (length-tab m c)
@@ -107,6 +106,26 @@ module _ (S : Setup) (group : ℕ) (det : determines S (holds group) ≡ true) (
           go r (found l e h) =
               (r, l, λ ag. false≢true (sym (not-true _ e) ∙ every-all (S .l) _ (λ k m. eq-eqb _ _ (ap (λ c. at c k) (same-column B A r ag (agA r l))))))
 
+-- WHAT A HOLDER THAT KEPT ITS SHARES HAS
+module _ (S : Setup) (D : Dealing) (i : ℕ) (keeps : Keeps S D i) where
+  judged : (j : ℕ) → j < S .n → at (D .values i) j ≡ expected S (D .h i) j
+  judged = accept-means S (D .h i) (D .values i) (not-refused (refusal (judgeRules S (D .h i) (D .values i))) _ _ (keeps .judged) .1)
+
+  settled : (refusal (outcomeRules S (D .g i) (D .verdicts i) (keeps .lent)) ≡ 0) × (outcome S (D .verdicts i) ≡ kept)
+  settled = not-refused (refusal (outcomeRules S (D .g i) (D .verdicts i) (keeps .lent))) _ _ (keeps .settled)
+
+  part-g : Vec (S .p) (dim S) (D .g i)
+  part-g = outcome-ok S (D .g i) (D .verdicts i) (keeps .lent) (settled .0) .part
+
+  shares-are : D .shares i ≡ take (S .l) (D .g i)
+  shares-are = sym (keeps .share) ∙ rw (settled .0, kept-means S (D .verdicts i) (settled .1)) refl
+
+  share-at : (b : ℕ) → b < S .l → at (D .shares i) b ≡ at (D .g i) b
+  share-at b l = ap (λ v. at v b) shares-are ∙ getD-take (S .l) (D .g i) b 0 l
+
+  share-small : (b : ℕ) → b < S .l → at (D .shares i) b < S .p
+  share-small b l = rw (share-at b l) (part-g .small b (omega arith))
+
 -- WHAT THE GROUP'S MEMBERS HAVE
 module _ (S : Setup) (group : ℕ) {I : Type 0} (D : I → Dealing) (done : Done S group D) where
   ok : SetOk S group
@@ -120,25 +139,6 @@ module _ (S : Setup) (group : ℕ) {I : Type 0} (D : I → Dealing) (done : Done
 
   big : 1 < S .p
   big = limits-prime S (ok .setup .limits) .big
-
-  module _ (t : I) (i : ℕ) (m : Member S group i) where
-    judged : (j : ℕ) → j < S .n → at (D t .values i) j ≡ expected S (D t .h i) j
-    judged = accept-means S (D t .h i) (D t .values i) (not-refused (refusal (judgeRules S (D t .h i) (D t .values i))) _ _ (done .keepers t i m .judged) .1)
-
-    settled : (refusal (outcomeRules S (D t .g i) (D t .verdicts i) (done .keepers t i m .lent)) ≡ 0) × (outcome S (D t .verdicts i) ≡ kept)
-    settled = not-refused (refusal (outcomeRules S (D t .g i) (D t .verdicts i) (done .keepers t i m .lent))) _ _ (done .keepers t i m .settled)
-
-    part-g : Vec (S .p) (dim S) (D t .g i)
-    part-g = outcome-ok S (D t .g i) (D t .verdicts i) (done .keepers t i m .lent) (settled .0) .part
-
-    shares-are : D t .shares i ≡ take (S .l) (D t .g i)
-    shares-are = sym (done .keepers t i m .share) ∙ rw (settled .0, kept-means S (D t .verdicts i) (settled .1)) refl
-
-    share-at : (b : ℕ) → b < S .l → at (D t .shares i) b ≡ at (D t .g i) b
-    share-at b l = ap (λ v. at v b) shares-are ∙ getD-take (S .l) (D t .g i) b 0 l
-
-    share-small : (b : ℕ) → b < S .l → at (D t .shares i) b < S .p
-    share-small b l = rw (share-at b l) (part-g .small b (omega arith))
 
   sent : (t : I) (i j : ℕ) → Member S group i → Member S group j → at (D t .values i) j ≡ pairValue S (D t .g j) i
   sent t i j mi mj = sym (one-value _ _ (not-refused (refusal (pairValueRules S (D t .g j) i)) _ _ (done .delivered t i j mi mj) .1))
@@ -163,14 +163,14 @@ module _ (S : Setup) (group : ℕ) {I : Type 0} (D : I → Dealing) (done : Done
       ≡⟨ dot-mod-right (S .p) (length ms) r _ _ (λ a o.
       let mi : Member S group (at ms a) = member-at (S .n) (holds group) a o in
       ap (λ z. z % S .p) (dot-comm (dim S) (H a) (row S j))
-      ∙ sym (judged t (at ms a) mi j (mj .0)) ∙ sent t (at ms a) j mi mj
+      ∙ sym (judged S (D t) (at ms a) (done .keepers t (at ms a) mi) j (mj .0)) ∙ sent t (at ms a) j mi mj
       ∙ ap (λ z. z % S .p) (dot-comm (dim S) g (row S (at ms a)))) ⟩
       dot (length ms) r (λ a. dot (dim S) (rowAt S ms a) g) % S .p
       ≡⟨ row-reads (S .p) (length ms) (dim S) (rowAt S ms) b r (omega arith) (theRow-is S (holds group) b (every-at (S .l) (hasRow S (holds group)) det b l)) g ⟩
       g b % S .p
-      ≡⟨ mod-eq-of-lt (part-g t j mj .small b (omega arith)) ⟩
+      ≡⟨ mod-eq-of-lt (part-g S (D t) j (done .keepers t j mj) .small b (omega arith)) ⟩
       g b
-      ≡⟨ sym (share-at t j mj b l) ⟩
+      ≡⟨ sym (share-at S (D t) j (done .keepers t j mj) b l) ⟩
       at (D t .shares j) b ∎
 
   vectorOf : I → ℕ → List ℕ
@@ -213,6 +213,14 @@ module _ (S : Setup) (group : ℕ) {I : Type 0} (D : I → Dealing) (done : Done
   array-at t b k h l =
       ap (λ c. at c k) (array-column t b h) ∙ getD-take (S .l) (vectorOf t b) k 0 l ∙ getD-tab (dim S) _ 0 k (omega arith)
 
+  -- So position k of column b of the array found, whoever found it, is what b's row over the group makes of the members' h
+  pub array-by-row : (F : Found S group D) (t : I) (b k : ℕ) → b < S .l → k < S .l
+      → at (column (F .array t) b) k
+      ≡ dot (length (members (S .n) (holds group))) (at (theRow S (holds group) b)) (λ a. at (D t .h (at (members (S .n) (holds group)) a)) k) % S .p
+  unfolding behind ms
+  array-by-row F t b k h l =
+      ap (λ A. at (column A b) k) (only S group det (D t) _ _ (F .one t .array) (array-is t) (F .one t .agrees) (array-agrees t)) ∙ array-at t b k h l
+
   -- WHAT IS HANDED IN
   module _ (ts : Terms I) (lim : InLimits S ts) where
     long : length (constants ts) ≡ ts .count
@@ -226,7 +234,7 @@ module _ (S : Setup) (group : ℕ) {I : Type 0} (D : I → Dealing) (done : Done
         (record {
           field = ok .setup .limits .field;
           constants = rw long (tab-vec (S .p) (ts .count) (ts .constant) (λ t l. lim .constants t l));
-          shares = rw long (tab-vec (S .p) (ts .count) _ (λ t l. share-small (ts .dealing t) i m (ts .column t) (lim .columns t l)));
+          shares = rw long (tab-vec (S .p) (ts .count) _ (λ t l. share-small S (D (ts .dealing t)) i (done .keepers (ts .dealing t) i m) (ts .column t) (lim .columns t l)));
           few = omega (arith, long, lim .few);
         })) refl
 
@@ -262,7 +270,7 @@ module _ (S : Setup) (group : ℕ) {I : Type 0} (D : I → Dealing) (done : Done
         ∙ dot-mod-right (S .p) (ts .count) (ts .constant) _ _
         (λ t l. ap (λ z. z % S .p) (dot-comm (dim S) (behind (ts .dealing t) (ts .column t)) (row S i))
         ∙ behind-gives (ts .dealing t) (ts .column t) (hand .limits .columns t l) i mi
-        ∙ sym (mod-eq-of-lt (share-small (ts .dealing t) i mi (ts .column t) (hand .limits .columns t l))))
+        ∙ sym (mod-eq-of-lt (share-small S (D (ts .dealing t)) i (done .keepers (ts .dealing t) i mi) (ts .column t) (hand .limits .columns t l))))
         ∙ sym (combine-tab (S .p) (ts .count) (ts .constant) _)
 
     whole-secret : (k : ℕ) → k < S .l → whole k % S .p ≡ at xs k
@@ -393,10 +401,127 @@ g-at : (S : Setup) (F : List ℕ) (i b : ℕ) → b < dim S → at (partG S F i)
 unfolding partG
 g-at S F i b l = getD-tab (dim S) _ 0 b l
 
+-- F's entries in rows and columns below ℓ, column by column
+abbrev pub block : Setup → List ℕ → Array
+block S F = tab (S .l) (λ b. tab (S .l) (λ k. entry (dim S) F k b))
+
+-- A dealing whose parts are those of one matrix F and whose pair values all arrived
+pub record From (S : Setup) (F : List ℕ) (D : Dealing) : Type 0 where
+  pub setup : IsSetup S
+  pub small : (k b : ℕ) → k < dim S → b < dim S → entry (dim S) F k b < S .p
+  pub part-g : (i : ℕ) → i < S .n → D .g i ≡ partG S F i
+  pub part-h : (i : ℕ) → i < S .n → D .h i ≡ partH S F i
+  pub received : (i : ℕ) → i < S .n → length (D .values i) ≡ S .n
+  pub arrived : (i j : ℕ) → i < S .n → j < S .n → pairValueCall S (D .g j) i ≡ given (at (D .values i) j ∷ [])
+
+-- g_j · m_i = m_i F m_j = m_j · h^i
+pairs-agree : (S : Setup) (F : List ℕ) (i j : ℕ) → pairValue S (partG S F j) i ≡ expected S (partH S F i) j
+unfolding pairValue expected partG partH
+pairs-agree S F i j =
+    ap (λ z. z % S .p) (dot-comm (dim S) (at (partG S F j)) (row S i))
+    ∙ dot-reduced (S .p) (dim S) (row S i) (λ b. dot (dim S) (row S j) (λ k. entry (dim S) F k b))
+    ∙ ap (λ z. z % S .p)
+    (dot-comm (dim S) (row S i) (λ b. dot (dim S) (row S j) (λ k. entry (dim S) F k b))
+    ∙ sym (dot-assoc (dim S) (dim S) (row S j) (row S i) (λ k b. entry (dim S) F k b)))
+    ∙ sym (dot-reduced (S .p) (dim S) (row S j) (λ k. dot (dim S) (λ b. entry (dim S) F k b) (row S i)))
+
+module _ (S : Setup) (F : List ℕ) (D : Dealing) (from : From S F D) where
+  p-pos : 0 < S .p
+  p-pos = limits-pos S (from .setup .limits)
+
+  module _ (i : ℕ) (l : i < S .n) where
+    row-vec : Vec (S .p) (dim S) (D .g i)
+    row-vec = rw (from .part-g i l) (unfold partG in tab-vec (S .p) (dim S) _ (λ k m. mod-lt _ p-pos))
+
+    column-vec : Vec (S .p) (dim S) (D .h i)
+    column-vec = rw (from .part-h i l) (unfold partH in tab-vec (S .p) (dim S) _ (λ k m. mod-lt _ p-pos))
+
+    value-is : (j : ℕ) → j < S .n → at (D .values i) j ≡ pairValue S (D .g j) i
+    value-is j m = sym (one-value _ _ (not-refused (refusal (pairValueRules S (D .g j) i)) _ _ (from .arrived i j l m) .1))
+
+    pub judge-fits : JudgeOk S (D .h i) (D .values i)
+    judge-fits =
+        record {
+          setup = from .setup;
+          part = column-vec;
+          received = record { size = from .received i l; small = λ j m. rw (value-is j m) (unfold pairValue in mod-lt _ p-pos) };
+        }
+
+    pub pair-right : (j : ℕ) → j < S .n → at (D .values i) j ≡ expected S (D .h i) j
+    pair-right j m =
+        value-is j m ∙ ap (λ g. pairValue S g i) (from .part-g j m) ∙ pairs-agree S F i j ∙ ap (λ h. expected S h j) (sym (from .part-h i l))
+
+    pub accepted : judgeCall S (D .h i) (D .values i) ≡ accepts
+    accepted = rw (judge-accepts S (D .h i) (D .values i) judge-fits) (ap paperJudgement (accept-when S (D .h i) (D .values i) pair-right))
+
+    -- where every verdict heard is accept
+    pub settles : (lent : List ℕ) → length lent ≡ S .l → length (D .verdicts i) ≡ S .n → ((j : ℕ) → j < S .n → at (D .verdicts i) j ≡ 1)
+        → outcomeCall S (D .g i) (D .verdicts i) lent ≡ kept
+    settles lent room heard said = rw fine (unfold fateOf in rw (kept-when S (D .verdicts i) said))
+      where
+        fine : refusal (outcomeRules S (D .g i) (D .verdicts i) lent) ≡ 0
+        fine =
+            outcome-accepts S (D .g i) (D .verdicts i) lent
+            (record { limits = from .setup .limits; part = row-vec; heard = record { size = heard; small = λ j m. omega (arith, said j m) }; room = room })
+
+  -- THE ARRAY is F's block, for every group that keeps its shares
+  pub block-is : IsArray S (block S F)
+  block-is =
+      record {
+        count = length-tab (S .l) _;
+        each = λ b h. rw (getD-tab (S .l) (λ b. tab (S .l) (λ k. entry (dim S) F k b)) [] b h)
+            (tab-vec (S .p) (S .l) _ (λ k l. from .small k b (omega arith) (omega arith)));
+      }
+
+  pub block-agrees : (group : ℕ) → ((i : ℕ) → Member S group i → Keeps S D i) → Agrees S group D (block S F)
+  block-agrees group keeps b h =
+      record {
+        vector = tab (dim S) (λ k. entry (dim S) F k b);
+        ok = tab-vec (S .p) (dim S) _ (λ k l. from .small k b l (omega arith));
+        begins =
+            tab-is (S .l) _ 0 (take (S .l) (tab (dim S) (λ k. entry (dim S) F k b))) len
+            (λ k l. getD-take (S .l) _ k 0 l ∙ getD-tab (dim S) _ 0 k (omega arith))
+            ∙ sym (getD-tab (S .l) (λ b. tab (S .l) (λ k. entry (dim S) F k b)) [] b h);
+        gives = λ i m.
+            ap (λ z. z % S .p) (dot-tab (dim S) (row S i) (λ k. entry (dim S) F k b))
+            ∙ sym (g-at S F i b (omega arith))
+            ∙ ap (λ g. at g b) (sym (from .part-g i (m .0)))
+            ∙ sym (share-at S D i (keeps i m) b h);
+      }
+    where
+      len : length (take (S .l) (tab (dim S) (λ k. entry (dim S) F k b))) ≡ S .l
+      len = length-take-le (S .l) (tab (dim S) (λ k. entry (dim S) F k b)) (omega (arith, length-tab (dim S) (λ k. entry (dim S) F k b)))
+
+  pub block-one : (group : ℕ) → determinesCall S group ≡ yes → ((i : ℕ) → Member S group i → Keeps S D i) → ExactlyOne S group D (block S F)
+  block-one group e keeps = exactly-one S group (determines-ok S group e .1) D (block S F) block-is (block-agrees group keeps)
+
+-- whatever demand 3 finds for it is that block
+pub block-found : (S : Setup) (group : ℕ) {I : Type 0} (D : I → Dealing) → Done S group D → (F : Found S group D) (t : I) (M : List ℕ) → From S M (D t)
+    → F .array t ≡ block S M
+block-found S group D done F t M from =
+    only S group (determines-ok S group (done .determined) .1) (D t) _ _ (F .one t .array) (block-is S M (D t) from)
+    (F .one t .agrees) (block-agrees S M (D t) from group (done .keepers t))
+
+-- and what members of the group open is that combination of the arrays known
+pub opens-known : (S : Setup) (group : ℕ) {I : Type 0} (D : I → Dealing) (F : Found S group D) (A : I → Array) → ((t : I) → F .array t ≡ A t)
+    → (ts : Terms I) (openers : ℕ) (handed out : List ℕ) → Handed S group D ts openers handed → length out ≡ S .l
+    → ((i : ℕ) → Member S openers i → Member S group i)
+    → Opens S openers handed out (secretsOver S A ts)
+opens-known S group D F A same ts openers handed out hand room sub =
+    let r = F .never-refused ts openers handed out hand room sub in
+    record {
+      answer = r .answer;
+      buffer = r .buffer
+          ∙ tab-ext (S .l) _ _ (λ k l. ap (combine (S .p) (constants ts))
+          (tab-ext (ts .count) _ _ (λ t m. ap (λ A. at (column A (ts .column t)) k) (same (ts .dealing t)))));
+    }
+
 -- an entry of F is one of the lent ones, or 0 past their ends
-dealt-small : (S : Setup) (secrets random : List ℕ) → DealOk S secrets random → (k b : ℕ) → dealtEntry S secrets random k b < S .p
-unfolding dealtEntry
-dealt-small S secrets random ok k b = go (ltb k (S .l) && ltb b (S .l))
+pub dealt-small : (S : Setup) (secrets random : List ℕ) → DealOk S secrets random → (k b : ℕ) → k < dim S → b < dim S → entry (dim S) (dealt S secrets random) k b < S .p
+unfolding dealt dealtEntry
+dealt-small S secrets random ok k b hk hb =
+    rw (getD-tab (dim S * dim S) (flat (dim S) (dealtEntry S secrets random)) 0 (k * dim S + b) (digits-lt hk hb), ← flat-at (dim S) (dealtEntry S secrets random) k b hb)
+    (go (ltb k (S .l) && ltb b (S .l)))
   where
     pos : 0 < S .p
     pos = limits-pos S (ok .setup .limits)
@@ -406,9 +531,6 @@ dealt-small S secrets random ok k b = go (ltb k (S .l) && ltb b (S .l))
     go false = below-vec (S .p) _ random pos (ok .entries) (place S k b)
 
 module _ (S : Setup) (secrets random : List ℕ) (D : Dealing) (hon : Honest S secrets random D) where
-  F : List ℕ
-  F = dealt S secrets random
-
   module _ (i : ℕ) (l : i < S .n) where
     not-declined : refusal (dealRules S secrets random i (hon .lentG) (hon .lentH)) ≡ 0
     not-declined = not-refused (refusal (dealRules S secrets random i (hon .lentG) (hon .lentH))) (given []) [] (hon .dealing i l) .0
@@ -416,121 +538,42 @@ module _ (S : Setup) (secrets random : List ℕ) (D : Dealing) (hon : Honest S s
     dealing-ok : DealOk S secrets random
     dealing-ok = deal-ok S secrets random i (hon .lentG) (hon .lentH) not-declined .0
 
-    g-is : D .g i ≡ partG S F i
-    unfolding F
-    g-is = sym (hon .part-g i l) ∙ rw not-declined refl
+  -- with any holder the inputs of the dealing are known to be in order
+  honest-from : (i : ℕ) → i < S .n → From S (dealt S secrets random) D
+  honest-from i l =
+      record {
+        setup = dealing-ok i l .setup;
+        small = dealt-small S secrets random (dealing-ok i l);
+        part-g = λ j m. sym (hon .part-g j m) ∙ rw (not-declined j m) refl;
+        part-h = λ j m. sym (hon .part-h j m) ∙ rw (not-declined j m) refl;
+        received = hon .received;
+        arrived = hon .arrived;
+      }
 
-    h-is : D .h i ≡ partH S F i
-    unfolding F
-    h-is = sym (hon .part-h i l) ∙ rw not-declined refl
-
-    p-pos : 0 < S .p
-    p-pos = limits-pos S (dealing-ok .setup .limits)
-
-    part-g′ : Vec (S .p) (dim S) (D .g i)
-    part-g′ = rw g-is (unfold partG in tab-vec (S .p) (dim S) _ (λ k m. mod-lt _ p-pos))
-
-    part-h′ : Vec (S .p) (dim S) (D .h i)
-    part-h′ = rw h-is (unfold partH in tab-vec (S .p) (dim S) _ (λ k m. mod-lt _ p-pos))
-
-    value-is : (j : ℕ) → j < S .n → at (D .values i) j ≡ pairValue S (D .g j) i
-    value-is j m = sym (one-value _ _ (not-refused (refusal (pairValueRules S (D .g j) i)) _ _ (hon .arrived i j l m) .1))
-
-    values-ok : Vec (S .p) (S .n) (D .values i)
-    values-ok = record { size = hon .received i l; small = λ j m. rw (value-is j m) (unfold pairValue in mod-lt _ p-pos) }
-
-  -- g_j · m_i = m_i F m_j = m_j · h^i
-  pair-right : (i j : ℕ) → i < S .n → j < S .n → at (D .values i) j ≡ expected S (D .h i) j
-  unfolding pairValue expected partG partH
-  pair-right i j l m =
-      value-is i l j m
-      ∙ ap (λ g. pairValue S g i) (g-is j m)
-      ∙ ap (λ z. z % S .p) (dot-comm (dim S) (at (partG S F j)) (row S i))
-      ∙ dot-reduced (S .p) (dim S) (row S i) (λ b. dot (dim S) (row S j) (λ k. entry (dim S) F k b))
-      ∙ ap (λ z. z % S .p)
-      (dot-comm (dim S) (row S i) (λ b. dot (dim S) (row S j) (λ k. entry (dim S) F k b))
-      ∙ sym (dot-assoc (dim S) (dim S) (row S j) (row S i) (λ k b. entry (dim S) F k b)))
-      ∙ sym (dot-reduced (S .p) (dim S) (row S j) (λ k. dot (dim S) (λ b. entry (dim S) F k b) (row S i)))
-      ∙ ap (λ h. expected S h j) (sym (h-is i l))
-
-  accepted : (i : ℕ) → i < S .n → judgeCall S (D .h i) (D .values i) ≡ accepts
-  accepted i l =
-      rw (judge-accepts S (D .h i) (D .values i) (record { setup = dealing-ok i l .setup; part = part-h′ i l; received = values-ok i l }))
-      (ap paperJudgement (accept-when S (D .h i) (D .values i) (λ j m. pair-right i j l m)))
+  accepted′ : (i : ℕ) → i < S .n → judgeCall S (D .h i) (D .values i) ≡ accepts
+  accepted′ i l = accepted S (dealt S secrets random) D (honest-from i l) i l
 
   all-said : (i j : ℕ) → i < S .n → j < S .n → at (D .verdicts i) j ≡ 1
-  all-said i j l m = hon .said i j l m ∙ ap (λ (a : Answer). at (a .values) 0) (accepted j m)
+  all-said i j l m = hon .said i j l m ∙ ap (λ (a : Answer). at (a .values) 0) (accepted′ j m)
 
   keep′ : (i : ℕ) → i < S .n → Keeps S D i
   keep′ i l =
       record {
-        judged = accepted i l;
+        judged = accepted′ i l;
         lent = hon .lent;
-        settled = rw fine (unfold fateOf in rw (kept-when S (D .verdicts i) (λ j m. all-said i j l m)));
+        settled = settles S (dealt S secrets random) D (honest-from i l) i l (hon .lent) (hon .room) (hon .heard i l) (λ j m. all-said i j l m);
         share = hon .share i l;
       }
-    where
-      fine : refusal (outcomeRules S (D .g i) (D .verdicts i) (hon .lent)) ≡ 0
-      fine =
-          outcome-accepts S (D .g i) (D .verdicts i) (hon .lent)
-          (record {
-            limits = dealing-ok i l .setup .limits;
-            part = part-g′ i l;
-            heard = record { size = hon .heard i l; small = λ j m. omega (arith, all-said i j l m) };
-            room = hon .room;
-          })
 
   done′ : (group : ℕ) → determinesCall S group ≡ yes → Done S group (λ (t : Unit {0}). D)
   done′ group e = record { determined = e; keepers = λ t i m. keep′ i (m .0); delivered = λ t i j mi mj. hon .arrived i j (mi .0) (mj .0) }
 
-  -- THE ARRAY DEALT. A group that determines has a member, and so the inputs of the dealing are known to be in order
-  module _ (group : ℕ) (e : determinesCall S group ≡ yes) where
-    prime : Prime (S .p)
-    prime = limits-prime S (determines-ok S group e .0 .setup .limits)
+  -- a group that determines has a setup with a holder
+  pub group-from : (group : ℕ) → determinesCall S group ≡ yes → From S (dealt S secrets random) D
+  group-from group e = honest-from 0 (determines-ok S group e .0 .setup .limits .holders .0)
 
-    holder : 0 < S .n
-    holder = determines-ok S group e .0 .setup .limits .holders .0
-
-    inputs : DealOk S secrets random
-    inputs = dealing-ok 0 holder
-
-    -- an entry of F is a field element
-    entry-small : (k b : ℕ) → k < dim S → b < dim S → entry (dim S) F k b < S .p
-    unfolding F dealt
-    entry-small k b hk hb =
-        rw (getD-tab (dim S * dim S) (flat (dim S) (dealtEntry S secrets random)) 0 (k * dim S + b) (digits-lt hk hb), ← flat-at (dim S) (dealtEntry S secrets random) k b hb)
-        (dealt-small S secrets random inputs k b)
-
-    dealt-is : IsArray S (arrayDealt S secrets random)
-    dealt-is =
-        record {
-          count = length-tab (S .l) _;
-          each = λ b h. rw (getD-tab (S .l) (λ b. tab (S .l) (λ k. entry (dim S) (dealt S secrets random) k b)) [] b h)
-              (tab-vec (S .p) (S .l) _ (λ k l. unfold F in entry-small k b (omega arith) (omega arith)));
-        }
-
-    dealt-agrees : Agrees S group D (arrayDealt S secrets random)
-    unfolding F
-    dealt-agrees b h =
-        record {
-          vector = tab (dim S) (λ k. entry (dim S) F k b);
-          ok = tab-vec (S .p) (dim S) _ (λ k l. entry-small k b l (omega arith));
-          begins =
-              tab-is (S .l) _ 0 (take (S .l) (tab (dim S) (λ k. entry (dim S) F k b))) len
-              (λ k l. getD-take (S .l) _ k 0 l ∙ getD-tab (dim S) _ 0 k (omega arith))
-              ∙ sym (getD-tab (S .l) (λ b. tab (S .l) (λ k. entry (dim S) (dealt S secrets random) k b)) [] b h);
-          gives = λ i m.
-              ap (λ z. z % S .p) (dot-tab (dim S) (row S i) (λ k. entry (dim S) F k b))
-              ∙ sym (g-at S F i b (omega arith))
-              ∙ ap (λ g. at g b) (sym (g-is i (m .0)))
-              ∙ sym (share-at S group (λ (t : Unit {0}). D) (done′ group e) tt i m b h);
-        }
-      where
-        len : length (take (S .l) (tab (dim S) (λ k. entry (dim S) F k b))) ≡ S .l
-        len = length-take-le (S .l) (tab (dim S) (λ k. entry (dim S) F k b)) (omega (arith, length-tab (dim S) (λ k. entry (dim S) F k b)))
-
-    array′ : ExactlyOne S group D (arrayDealt S secrets random)
-    array′ = exactly-one S group (determines-ok S group e .1) D (arrayDealt S secrets random) dealt-is dealt-agrees
+  array′ : (group : ℕ) → determinesCall S group ≡ yes → ExactlyOne S group D (arrayDealt S secrets random)
+  array′ group e = block-one S (dealt S secrets random) D (group-from group e) group e (λ i m. keep′ i (m .0))
 
   -- position k of column b is position k of secret vector b
   vectors′ : (k b : ℕ) → k < S .l → b < S .l → at (column (arrayDealt S secrets random) b) k ≡ entry (S .l) secrets b k
@@ -543,7 +586,7 @@ module _ (S : Setup) (secrets random : List ℕ) (D : Dealing) (hon : Honest S s
       ∙ rw (lt-ltb k (S .l) hk, lt-ltb b (S .l) hb) refl
 
   honest′ : HonestFound S secrets random D
-  honest′ = record { accept = accepted; keep = keep′; done = done′; array = array′; vectors = vectors′ }
+  honest′ = record { accept = accepted′; keep = keep′; done = done′; array = array′; vectors = vectors′ }
 
   -- SECRETS DEALT COME BACK
   back′ : (s : ℕ) → determinesCall S s ≡ yes → (b : ℕ) → b < S .l → (out : List ℕ) → length out ≡ S .l
@@ -565,7 +608,7 @@ module _ (S : Setup) (secrets random : List ℕ) (D : Dealing) (hon : Honest S s
       handed = tab (length (members (S .n) (holds s))) (λ a. at (D .shares (at (members (S .n) (holds s)) a)) b)
 
       big′ : 1 < S .p
-      big′ = prime s e .big
+      big′ = limits-prime S (determines-ok S s e .0 .setup .limits) .big
 
       lim : InLimits S ts
       lim = record { few = omega arith; columns = λ t l. h; constants = λ t l. big′ }
@@ -580,18 +623,17 @@ module _ (S : Setup) (secrets random : List ℕ) (D : Dealing) (hon : Honest S s
                 let m = member-at (S .n) (holds s) a l in
                 combined S s all (done′ s e) ts lim (at (members (S .n) (holds s)) a) m
                 ∙ ap (λ z. given (z ∷ []))
-                (combine-one (S .p) _ (share-small S s all (done′ s e) tt _ m b h) ∙ sym (getD-tab (length (members (S .n) (holds s))) _ 0 a l));
+                (combine-one (S .p) _ (share-small S D _ (keep′ _ (m .0)) b h) ∙ sym (getD-tab (length (members (S .n) (holds s))) _ 0 a l));
             present = unfold determines in every-all (S .l) _ (λ k l.
                 row-grows S (holds s) (λ i. holds s i && holds s i) k big′ (λ i m t. rw t refl)
                 (every-at (S .l) (hasRow S (holds s)) (unfold determines in determines-ok S s e .1) k l));
           }
 
       same-array : found-there .array tt ≡ arrayDealt S secrets random
-      same-array =
-          only S s (determines-ok S s e .1) D _ _ (found-there .one tt .array) (dealt-is s e) (found-there .one tt .agrees) (dealt-agrees s e)
+      same-array = block-found S s all (done′ s e) found-there tt (dealt S secrets random) (group-from s e)
 
       column-is : column (arrayDealt S secrets random) b ≡ tab (S .l) (λ k. entry (S .l) secrets b k)
-      column-is = tab-is (S .l) _ 0 _ (dealt-is s e .each b h .size) (λ k l. vectors′ k b l h)
+      column-is = tab-is (S .l) _ 0 _ (block-is S (dealt S secrets random) D (group-from s e) .each b h .size) (λ k l. vectors′ k b l h)
 
 -- FAMILIES
 module _ (S : Setup) {I : Type 0} (secrets random : I → List ℕ) (D : I → Dealing) (hon : (t : I) → Honest S (secrets t) (random t) (D t)) where
@@ -600,7 +642,12 @@ module _ (S : Setup) {I : Type 0} (secrets random : I → List ℕ) (D : I → D
 
   families′ : FamilyFound S secrets random D
   unfolding dealtAt
-  families′ = record { done = all-done; arrays = same; opens = opens-all }
+  families′ =
+      record {
+        done = all-done;
+        arrays = same;
+        opens = λ group e. let F = found′ S group D (all-done group e) in opens-known S group D F dealtAt (same group e F);
+      }
     where
       all-done : (group : ℕ) → determinesCall S group ≡ yes → Done S group D
       all-done group e =
@@ -612,22 +659,7 @@ module _ (S : Setup) {I : Type 0} (secrets random : I → List ℕ) (D : I → D
 
       same : (group : ℕ) → determinesCall S group ≡ yes → (F : Found S group D) (t : I) → F .array t ≡ dealtAt t
       same group e F t =
-          only S group (determines-ok S group e .1) (D t) _ _ (F .one t .array) (dealt-is S (secrets t) (random t) (D t) (hon t) group e)
-          (F .one t .agrees) (dealt-agrees S (secrets t) (random t) (D t) (hon t) group e)
-
-      opens-all : (group : ℕ) → determinesCall S group ≡ yes
-          → (ts : Terms I) (openers : ℕ) (handed out : List ℕ) → Handed S group D ts openers handed → length out ≡ S .l
-          → ((i : ℕ) → Member S openers i → Member S group i)
-          → Opens S openers handed out (secretsOver S dealtAt ts)
-      opens-all group e ts openers handed out hand room sub =
-          let F = found′ S group D (all-done group e) in
-          let r = F .never-refused ts openers handed out hand room sub in
-          record {
-            answer = r .answer;
-            buffer = r .buffer
-                ∙ tab-ext (S .l) _ _ (λ k l. ap (combine (S .p) (constants ts))
-                (tab-ext (ts .count) _ _ (λ t m. ap (λ A. at (column A (ts .column t)) k) (same group e F (ts .dealing t)))));
-          }
+          block-found S group D (all-done group e) F t (dealt S (secrets t) (random t)) (group-from S (secrets t) (random t) (D t) (hon t) group e)
 
 pub demand3 : Demand3
 demand3 = record { found = found′; met = met′; honest = honest′; families = families′; back = back′ }

@@ -4,5 +4,8 @@ pub mod NoColumns
 pub mod Present
 pub mod Lists
 pub mod Back
+pub mod Maps
+pub mod HonestMaps
+pub mod MapLists
 pub mod Files
 pub mod Retired

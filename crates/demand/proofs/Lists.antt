@@ -73,7 +73,7 @@ terms =
     }
 
 -- what holds of the three holders of the group, and of the three terms
-of-group : (P : ℕ → Type 0) → P 0 → P 1 → P 2 → (i : ℕ) → Member four 7 i → P i
+pub of-group : (P : ℕ → Type 0) → P 0 → P 1 → P 2 → (i : ℕ) → Member four 7 i → P i
 of-group P a b c zero m = a
 of-group P a b c (suc zero) m = b
 of-group P a b c (suc (suc zero)) m = c

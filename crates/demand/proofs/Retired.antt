@@ -18,15 +18,15 @@ use Rattle.base.proofs.Rules.{without, never}
 use Rattle.field.specs.Fields.{isField}
 use Rattle.field.specs.Dot.{at}
 use Rattle.scheme.specs.Setup.{Setup}
-use Rattle.scheme.specs.Dealing.{judgementOf, fateOf}
+use Rattle.scheme.specs.Dealing.{judgementOf, judgementMapped, fateOf}
 use Rattle.scheme.specs.Sets.{holds, determines, isPrivate}
 use Rattle.scheme.specs.Opening.{opening}
-use Rattle.scheme.specs.Calls.{pointsRules, dealRules, dealAllRules, pairValueRules, judgeRules, outcomeRules, rehearseRules, setRules, judgeSetRules, openRules, combineRules}
+use Rattle.scheme.specs.Calls.{pointsRules, dealRules, dealAllRules, dealMappedRules, dealMappedAllRules, pairValueRules, judgeRules, judgeMappedRules, outcomeRules, rehearseRules, setRules, judgeSetRules, openRules, combineRules}
 use Rattle.scheme.proofs.Answering.{Given, given-given, given-number, judgement-given, fate-given, rehearse-given, decide-given, kind-given, OpeningIs, secrets, by-six, by-seven, opening-is}
 use Rattle.board_keys.specs.Keys.{keySetup, opened, keyOpening, openKeyRules}
 use Rattle.board_keys.proofs.Opened.{KeyOpeningIs, positions, no-row, no-vector, keyOpening-is}
 use Rattle.record_layouts.specs.Words.{wordAt}
-use Rattle.record_layouts.specs.Records.{markSU, pairAt, verdictAt, setupAt, setupSize, dealingSize, dealingAt, dealingG, dealingH, parts, writeRules, readRules, writeSetupRules, readSetupRules, readMatrixRules, readDealingRules, standingRules, dealingLayout, pairLayout, verdictLayout, shareLayout}
+use Rattle.record_layouts.specs.Records.{markSU, pairAt, verdictAt, setupAt, setupSize, dealingSize, dealingAt, dealingG, dealingH, parts, mappedParts, writeRules, readRules, writeSetupRules, readSetupRules, readMatrixRules, readDealingRules, readMappedRules, standingRules, dealingLayout, mappedLayout, pairLayout, mappedPairLayout, verdictLayout, shareLayout}
 use Rattle.file_records.specs.declared.Head.{Head}
 use Rattle.file_records.specs.Received.{place, pairRules, pairFault, verdictRules, verdictFault, recordFault, faultAt, reached, valuesAt, verdictsAt}
 use Rattle.file_records.proofs.Reading.{record-by}
@@ -122,8 +122,12 @@ never-given =
       points = λ S. answers (pointsRules S) _ tt (given-given []);
       deal = λ S secrets random i g h. answers (dealRules S secrets random i g h) _ tt (given-given []);
       deal-all = λ S secrets random gs hs. answers (dealAllRules S secrets random gs hs) _ tt (given-given []);
+      deal-mapped = λ S secrets random phi random2 i B. answers (dealMappedRules S secrets random phi random2 i B) _ tt (given-given []);
+      deal-mapped-all = λ S secrets random phi random2 B. answers (dealMappedAllRules S secrets random phi random2 B) _ tt (given-given []);
       pair-value = λ S g i. answers (pairValueRules S g i) _ tt (given-given _);
       judge = λ S h values. answers (judgeRules S h values) _ tt (judgement-given (judgementOf S h values));
+      judge-mapped = λ S h values phi h2 values2.
+          answers (judgeMappedRules S h values phi h2 values2) _ tt (judgement-given (judgementMapped S h values phi h2 values2));
       outcome = λ S g verdicts out. answers (outcomeRules S g verdicts out) _ tt (fate-given (fateOf S verdicts));
       rehearse = λ S gs hs. answers (rehearseRules S gs hs) _ tt (rehearse-given S gs hs);
       determines = λ S s. answers (setRules S s) _ tt (decide-given (determines S (holds s)));
@@ -138,8 +142,12 @@ never-given =
       read-matrix = λ s m. answers (readMatrixRules s (length m)) _ tt (given-given []);
       write-dealing = λ S x g h out. answers (writeRules dealingLayout S (parts x g h) (length out)) _ tt (given-given []);
       read-dealing = λ S s g h. answers (readDealingRules S s (length g) (length h)) _ tt (given-given _);
+      write-mapped-dealing = λ S x g h phi out. answers (writeRules mappedLayout S (mappedParts x g h phi) (length out)) _ tt (given-given []);
+      read-mapped-dealing = λ S s g h phi. answers (readMappedRules S s (length g) (length h) (length phi)) _ tt (given-given _);
       write-pair = λ S x out. answers (writeRules pairLayout S x (length out)) _ tt (given-given []);
       read-pair = λ S s. answers (readRules pairLayout S [] s) _ tt (given-given _);
+      write-mapped-pair = λ S x out. answers (writeRules mappedPairLayout S x (length out)) _ tt (given-given []);
+      read-mapped-pair = λ S s. answers (readRules mappedPairLayout S [] s) _ tt (given-given _);
       write-verdict = λ S x out. answers (writeRules verdictLayout S x (length out)) _ tt (given-given []);
       read-verdict = λ S s. answers (readRules verdictLayout S [] s) _ tt (given-given _);
       write-share = λ S x out. answers (writeRules shareLayout S x (length out)) _ tt (given-given []);

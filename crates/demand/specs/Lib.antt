@@ -1,3 +1,4 @@
 pub mod Demand
+pub mod Maps
 pub mod Files
 pub mod Retired

@@ -9,13 +9,13 @@ use Prim.Native.Nat.{ℕ}
 use Rattle.base.specs.Rules.{Answer}
 use Rattle.field.specs.Fields.{fieldAnswer}
 use Rattle.scheme.specs.Setup.{Setup}
-use Rattle.scheme.specs.Calls.{pointsCall, dealCall, dealAllCall, pairValueCall, judgeCall, outcomeCall, rehearseCall, determinesCall, privateCall, judgeSetCall, openCall, combineCall}
+use Rattle.scheme.specs.Calls.{Buffers, pointsCall, dealCall, dealAllCall, dealMappedCall, dealMappedAllCall, pairValueCall, judgeCall, judgeMappedCall, outcomeCall, rehearseCall, determinesCall, privateCall, judgeSetCall, openCall, combineCall}
 use Rattle.board_keys.specs.Keys.{dealKeyCall, openKeyCall}
 use Rattle.record_layouts.specs.declared.DealingRecord.{DealingRecord}
 use Rattle.record_layouts.specs.declared.PairRecord.{PairRecord}
 use Rattle.record_layouts.specs.declared.VerdictRecord.{VerdictRecord}
 use Rattle.record_layouts.specs.declared.ShareRecord.{ShareRecord}
-use Rattle.record_layouts.specs.Records.{writeSetupCall, readSetupCall, readMatrixCall, writeDealingCall, readDealingCall, writePairCall, readPairCall, writeVerdictCall, readVerdictCall, writeShareCall, readShareCall}
+use Rattle.record_layouts.specs.Records.{writeSetupCall, readSetupCall, readMatrixCall, writeDealingCall, readDealingCall, writeMappedCall, readMappedCall, writePairCall, readPairCall, writeMappedPairCall, readMappedPairCall, writeVerdictCall, readVerdictCall, writeShareCall, readShareCall}
 use Rattle.holder_file.specs.Calls.{holderFileCall, fileContentsCall}
 
 abbrev pub retired : ℕ
@@ -30,8 +30,11 @@ pub record NeverGiven : Type 0 where
   pub points : (S : Setup) → NotGiven (pointsCall S)
   pub deal : (S : Setup) (secrets random : List ℕ) (i : ℕ) (g h : List ℕ) → NotGiven (dealCall S secrets random i g h)
   pub deal-all : (S : Setup) (secrets random gs hs : List ℕ) → NotGiven (dealAllCall S secrets random gs hs)
+  pub deal-mapped : (S : Setup) (secrets random phi random2 : List ℕ) (i : ℕ) (B : Buffers) → NotGiven (dealMappedCall S secrets random phi random2 i B)
+  pub deal-mapped-all : (S : Setup) (secrets random phi random2 : List ℕ) (B : Buffers) → NotGiven (dealMappedAllCall S secrets random phi random2 B)
   pub pair-value : (S : Setup) (g : List ℕ) (i : ℕ) → NotGiven (pairValueCall S g i)
   pub judge : (S : Setup) (h values : List ℕ) → NotGiven (judgeCall S h values)
+  pub judge-mapped : (S : Setup) (h values phi h2 values2 : List ℕ) → NotGiven (judgeMappedCall S h values phi h2 values2)
   pub outcome : (S : Setup) (g verdicts out : List ℕ) → NotGiven (outcomeCall S g verdicts out)
   pub rehearse : (S : Setup) (gs hs : List ℕ) → NotGiven (rehearseCall S gs hs)
   pub determines : (S : Setup) (s : ℕ) → NotGiven (determinesCall S s)
@@ -48,8 +51,12 @@ pub record NeverGiven : Type 0 where
   pub read-matrix : (s m : List ℕ) → NotGiven (readMatrixCall s m)
   pub write-dealing : (S : Setup) (x : DealingRecord) (g h out : List ℕ) → NotGiven (writeDealingCall S x g h out)
   pub read-dealing : (S : Setup) (s g h : List ℕ) → NotGiven (readDealingCall S s g h)
+  pub write-mapped-dealing : (S : Setup) (x : DealingRecord) (g h phi out : List ℕ) → NotGiven (writeMappedCall S x g h phi out)
+  pub read-mapped-dealing : (S : Setup) (s g h phi : List ℕ) → NotGiven (readMappedCall S s g h phi)
   pub write-pair : (S : Setup) (x : PairRecord) (out : List ℕ) → NotGiven (writePairCall S x out)
   pub read-pair : (S : Setup) (s : List ℕ) → NotGiven (readPairCall S s)
+  pub write-mapped-pair : (S : Setup) (x : PairRecord) (out : List ℕ) → NotGiven (writeMappedPairCall S x out)
+  pub read-mapped-pair : (S : Setup) (s : List ℕ) → NotGiven (readMappedPairCall S s)
   pub write-verdict : (S : Setup) (x : VerdictRecord) (out : List ℕ) → NotGiven (writeVerdictCall S x out)
   pub read-verdict : (S : Setup) (s : List ℕ) → NotGiven (readVerdictCall S s)
   pub write-share : (S : Setup) (x : ShareRecord) (out : List ℕ) → NotGiven (writeShareCall S x out)
