@@ -30,7 +30,7 @@ const fn call(name: &'static str, refusals: &'static [u16], places: usize, eleme
     Call { name, refusals, places, elements, written, bytes }
 }
 
-pub const CALLS: [Call; 28] = [
+pub const CALLS: [Call; 35] = [
     call("points", &[1, 2, 3, 15], 0, &[], &[0], Bytes::None),
     call("deal", &[1, 2, 3, 4, 5], 0, &[0, 1, 2], &[3, 4], Bytes::None),
     call("deal to all", &[1, 2, 3, 4], 0, &[0, 1, 2], &[3, 4], Bytes::None),
@@ -59,6 +59,13 @@ pub const CALLS: [Call; 28] = [
     call("field", &[1], 0, &[], &[], Bytes::None),
     call("deal a key", &[3, 4], 0, &[0], &[1, 2], Bytes::Read),
     call("open a key", &[3, 4, 5, 6, 7, 16], 1, &[0], &[], Bytes::Written),
+    call("deal with a map", &[1, 2, 3, 4, 5], 0, &[0, 1, 2, 3, 4], &[5, 6, 7, 8], Bytes::None),
+    call("deal with a map to all", &[1, 2, 3, 4], 0, &[0, 1, 2, 3, 4], &[5, 6, 7, 8], Bytes::None),
+    call("judge with a map", &[1, 2, 3, 4], 2, &[0, 1, 2, 3, 4, 5], &[], Bytes::None),
+    call("write DF", &[1, 2, 3, 4, 5, 9], 0, &[0, 1, 2], &[], Bytes::Written),
+    call("write PF", &[1, 2, 3, 4, 5, 9], 0, &[], &[], Bytes::Written),
+    call("read DF", &[1, 2, 3, 4, 5, 8, 9], 2, &[], &[0, 1, 2], Bytes::Read),
+    call("read PF", &[1, 2, 3, 4, 5, 8, 9], 4, &[], &[], Bytes::Read),
 ];
 
 pub const FILE: u16 = 12;
@@ -66,6 +73,15 @@ pub const READ_FILE: u16 = 24;
 pub const FIELD: u16 = 25;
 pub const DEAL_KEY: u16 = 26;
 pub const OPEN_KEY: u16 = 27;
+pub const DEAL_MAPPED: u16 = 28;
+pub const DEAL_MAPPED_ALL: u16 = 29;
+pub const JUDGE_MAPPED: u16 = 30;
+pub const WRITE_DF: u16 = 31;
+pub const WRITE_PF: u16 = 32;
+pub const READ_DF: u16 = 33;
+pub const READ_PF: u16 = 34;
+/// The calls of a second dealing tied by a map.
+pub const MAPPED: std::ops::RangeInclusive<u16> = DEAL_MAPPED..=READ_PF;
 
 /// What every place holds before a call.
 pub const UNTOUCHED: u16 = 7777;
@@ -112,14 +128,19 @@ impl Case {
         (self.numbers[4], self.numbers[5]) = (set as u16, (set >> 16) as u16);
     }
 
-    /// The call, its numbers, the lengths of five slices of words and of one of bytes, then those slices; 16-bit words, low byte first, and bytes as they
+    /// The call, its numbers, the lengths of nine slices of words and of one of bytes, then those slices; 16-bit words, low byte first, and bytes as they
     /// are.
     pub fn stored(&self) -> Vec<u8> {
         let mut head = vec![self.call];
         head.extend(self.numbers);
-        head.extend((0..5).map(|k| self.words.get(k).map_or(0, |x| x.len() as u16)));
+        head.extend((0..9).map(|k| self.words.get(k).map_or(0, |x| x.len() as u16)));
         head.push(self.bytes.len() as u16);
-        [bytes(&head), bytes(&self.words.concat()), self.bytes.clone()].concat()
+        [bytes(&head), self.slices()].concat()
+    }
+
+    /// The slices, as they are stored behind the head.
+    pub fn slices(&self) -> Vec<u8> {
+        [bytes(&self.words.concat()), self.bytes.clone()].concat()
     }
 
     /// What the reference makes of it.
@@ -154,6 +175,17 @@ impl Case {
             (FIELD, []) => field(s.p),
             (DEAL_KEY, [random, gs, hs]) => deal_key(&bytes, random, gs, hs),
             (OPEN_KEY, [shares]) => open_key(set, shares, &mut bytes),
+            (DEAL_MAPPED, [m, secrets, random, phi, random2, g, h, g2, h2]) => {
+                deal_mapped(s, m, Mapped { secrets, random, phi, random2 }, x[4], [g, h, g2, h2])
+            }
+            (DEAL_MAPPED_ALL, [m, secrets, random, phi, random2, gs, hs, gs2, hs2]) => {
+                deal_mapped_all(s, m, Mapped { secrets, random, phi, random2 }, [gs, hs, gs2, hs2])
+            }
+            (JUDGE_MAPPED, [m, h, values, phi, h2, values2]) => judge_mapped(s, m, h, values, Second { phi, h: h2, values: values2 }),
+            (WRITE_DF, [g, h, phi]) => write_mapped_dealing(s, x[4], x[5], [g, h, phi], &mut bytes),
+            (WRITE_PF, []) => write_mapped_pair_value(s, x[4], x[5], x[6], x[7], &mut bytes),
+            (READ_DF, [g, h, phi]) => read_mapped_dealing(s, &bytes, [g, h, phi]),
+            (READ_PF, []) => read_mapped_pair_value(s, &bytes),
             _ => panic!("no such call: {self:?}"),
         };
         let places = (0..self.of().places).map(|k| answer.values.get(k).copied().unwrap_or(UNTOUCHED)).collect();
@@ -167,7 +199,7 @@ impl Case {
     /// reference both take the solution with zeros at the free unknowns, where the pivots are leftmost, and there is only one.
     pub fn line(&self) -> String {
         if self.call == FILE {
-            let mut out = [0; 256];
+            let mut out = [0; TEXT];
             let answer = holder_file(&self.bytes, &mut out);
             let (count, byte) = count_and_byte(&answer);
             let text = if answer.number == 0 { &out[..count as usize] } else { &[] };

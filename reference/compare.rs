@@ -7,7 +7,7 @@ mod cases;
 mod draw;
 use cases::*;
 use draw::*;
-use reference::{holder_file, is_of_kind, points, read_file};
+use reference::{holder_file, is_of_kind, points, read_file, CONTENTS, TEXT};
 
 /// The functions of include/mavdrusek.h.
 #[path = "../rust/src/raw.rs"]
@@ -57,10 +57,39 @@ fn ours(case: &Case) -> After {
                 mavdrusek_deal_key(part, part_len, r.as_ptr(), r.len(), g.as_mut_ptr(), g.len(), h.as_mut_ptr(), h.len())
             }
             (OPEN_KEY, [s]) => mavdrusek_open_key(set, s.as_ptr(), s.len(), part, part_len, a),
+            (WRITE_PF, []) => mavdrusek_write_mapped_pair_value(p, l, e, n, x[4], x[5], x[6], x[7], part, part_len),
+            (READ_PF, []) => mavdrusek_read_mapped_pair_value(p, l, e, n, part, part_len, a, b, c, d),
+            (DEAL_MAPPED..=READ_DF, words) => mapped(call, x, words, part, part_len, a, b),
             _ => panic!("no such call: {case:?}"),
         }
     };
     After { number, places: places[..case.of().places].to_vec(), words, bytes }
+}
+
+/// The calls of a second dealing that take or give lists, on their slices of words, a slice of bytes and two places.
+unsafe fn mapped(call: u16, x: [u16; 8], words: &mut [Vec<u16>], part: *mut u8, part_len: usize, a: &mut u16, b: &mut u16) -> u16 {
+    let [p, l, e, n, ..] = x;
+    match (call, words) {
+        (DEAL_MAPPED, [m, s, r, f, r2, g, h, g2, h2]) => mavdrusek_deal_mapped(
+            p, l, e, n, m.as_ptr(), m.len(), s.as_ptr(), s.len(), r.as_ptr(), r.len(), f.as_ptr(), f.len(), r2.as_ptr(), r2.len(), x[4],
+            g.as_mut_ptr(), g.len(), h.as_mut_ptr(), h.len(), g2.as_mut_ptr(), g2.len(), h2.as_mut_ptr(), h2.len(),
+        ),
+        (DEAL_MAPPED_ALL, [m, s, r, f, r2, g, h, g2, h2]) => mavdrusek_deal_mapped_all(
+            p, l, e, n, m.as_ptr(), m.len(), s.as_ptr(), s.len(), r.as_ptr(), r.len(), f.as_ptr(), f.len(), r2.as_ptr(), r2.len(),
+            g.as_mut_ptr(), g.len(), h.as_mut_ptr(), h.len(), g2.as_mut_ptr(), g2.len(), h2.as_mut_ptr(), h2.len(),
+        ),
+        (JUDGE_MAPPED, [m, h, v, f, h2, v2]) => mavdrusek_judge_mapped(
+            p, l, e, n, m.as_ptr(), m.len(), h.as_ptr(), h.len(), v.as_ptr(), v.len(), f.as_ptr(), f.len(), h2.as_ptr(), h2.len(), v2.as_ptr(),
+            v2.len(), a, b,
+        ),
+        (WRITE_DF, [g, h, f]) => mavdrusek_write_mapped_dealing(
+            p, l, e, n, x[4], x[5], g.as_ptr(), g.len(), h.as_ptr(), h.len(), f.as_ptr(), f.len(), part, part_len,
+        ),
+        (READ_DF, [g, h, f]) => mavdrusek_read_mapped_dealing(
+            p, l, e, n, part, part_len, g.as_mut_ptr(), g.len(), h.as_mut_ptr(), h.len(), f.as_mut_ptr(), f.len(), a, b,
+        ),
+        (_, words) => panic!("no such call: {call} on {words:?}"),
+    }
 }
 
 /// Whether the row steps of a judgement of a set are at most the smaller of k and d, times d − 1, for k members, and on the points matrix just as many.
@@ -120,13 +149,13 @@ fn agree_on_file(file: &[u8], text: &[u8], contents: &[u16]) -> bool {
 
 /// A file, the buffer for its text and the one for its contents, now and then one of a length that is refused.
 fn draw_file(r: &mut Random) -> (Vec<u8>, Vec<u8>, Vec<u16>) {
-    let mut file = draw(r, FILE).bytes;
+    let mut file = if r.chance(2) { draw(r, FILE).bytes } else { with_second(r).bytes };
     if r.chance(200) {
         let size = r.one(&[4095, 4096, 4097, 5000]);
         file.resize(size, 0);
     }
-    let bytes = if r.chance(50) { r.one(&[0, 255, 257]) } else { 256 };
-    let words = if r.chance(50) { r.one(&[0, 17, 19]) } else { 18 };
+    let bytes = if r.chance(50) { r.one(&[0, 256, TEXT - 1, TEXT + 1]) } else { TEXT };
+    let words = if r.chance(50) { r.one(&[0, 18, CONTENTS - 1, CONTENTS + 1]) } else { CONTENTS };
     (file, r.noise_bytes(bytes), r.noise(words))
 }
 

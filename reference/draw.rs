@@ -220,6 +220,53 @@ impl<'a> Draw<'a> {
         (secrets, random, gs, hs)
     }
 
+    /// A map: 0, the identity, or any.
+    pub fn map(&mut self) -> Vec<u16> {
+        let l = self.s.l as usize;
+        match self.r.below(5) {
+            0 => vec![0; l * l],
+            1 => (0..l * l).map(|k| (k / l == k % l) as u16).collect(),
+            _ => self.r.elements(self.s.p, l * l),
+        }
+    }
+
+    /// An honest dealing with this map.
+    pub fn mapped(&mut self, phi: &[u16]) -> MappedDealing {
+        let (s, l, d) = (self.s, self.s.l as usize, self.s.d());
+        let (secrets, random) = (self.r.elements(s.p, l * l), self.r.elements(s.p, d * d - l * l));
+        let random2 = self.r.elements(s.p, s.e as usize * d);
+        let mut parts = [(); 4].map(|_| vec![0; s.entries()]);
+        let from = Mapped { secrets: &secrets, random: &random, phi, random2: &random2 };
+        deal_mapped_all(s, &self.m, from, parts.each_mut().map(|x| &mut x[..]));
+        MappedDealing { from: vec![self.m.clone(), secrets, random, phi.to_vec(), random2], parts }
+    }
+
+    /// What holder i of this dealing has received.
+    pub fn received(&self, x: &MappedDealing, i: usize) -> Received {
+        let part = |k: usize| x.parts[k][i * self.s.d()..(i + 1) * self.s.d()].to_vec();
+        let (values, values2) = (self.values(&x.parts[0], i), self.values(&x.parts[2], i));
+        Received { holder: i as u16, g: part(0), g2: part(2), judged: vec![self.m.clone(), part(1), values, x.from[3].clone(), part(3), values2] }
+    }
+
+    /// The values from every holder that agree with this h.
+    pub fn agreeing(&self, h: &[u16]) -> Vec<u16> {
+        (0..self.s.n).map(|j| pair_value(self.s, &self.m, h, j).values[0]).collect()
+    }
+
+    /// The records of a holder's file with a DF: SU, DL, DF, then PV, PF and VD.
+    pub fn records_of(&self, number: u16, x: &Received, verdicts: &[u16]) -> Vec<Vec<u16>> {
+        let Received { holder, g, g2, judged } = x;
+        let [m, h, values, phi, h2, values2] = &judged[..] else { panic!("not what is judged with a map: {judged:?}") };
+        let s = self.s;
+        let mut all = vec![[&[SU, s.p, s.l, s.e, s.n], &m[..]].concat()];
+        all.push([&[DL, number, *holder], &g[..], h].concat());
+        all.push([&[DF, number, *holder], &g2[..], h2, phi].concat());
+        all.extend((0..s.n).map(|j| vec![PV, number, j, *holder, values[j as usize]]));
+        all.extend((0..s.n).map(|j| vec![PF, number, j, *holder, values2[j as usize]]));
+        all.extend((0..s.n).map(|j| vec![VD, number, j, verdicts[j as usize]]));
+        all
+    }
+
     /// The values that holder i receives in an honest dealing.
     fn values(&self, gs: &[u16], i: usize) -> Vec<u16> {
         let d = self.s.d();
@@ -257,6 +304,8 @@ impl<'a> Draw<'a> {
             DL => [vec![DL, number, i], r.elements(s.p, 2 * s.d())].concat(),
             PV => vec![PV, number, i, j, value],
             VD => vec![VD, number, i, r.below(2) as u16],
+            DF => [vec![DF, number, i], r.elements(s.p, 2 * s.d() + s.l as usize * s.l as usize)].concat(),
+            PF => vec![PF, number, i, j, value],
             _ if r.chance(3) => vec![SH, 0, i, 0, value],
             _ => vec![SH, number, i, r.below(s.l as usize) as u16, value],
         }
@@ -352,9 +401,49 @@ impl<'a> Draw<'a> {
                     c.bytes.extend(self.r.noise_bytes(more));
                 }
             }
+            DEAL_MAPPED | DEAL_MAPPED_ALL => {
+                let phi = self.map();
+                c.words = self.mapped(&phi).from;
+                c.numbers[4] = if call == DEAL_MAPPED { self.r.below(n) as u16 } else { 0 };
+                let size = if call == DEAL_MAPPED { d } else { s.entries() };
+                c.words.extend((0..4).map(|_| self.r.noise(size)));
+            }
+            JUDGE_MAPPED => c.words = self.to_judge().judged,
+            WRITE_DF | WRITE_PF => {
+                let record = self.record([DF, PF][(call - WRITE_DF) as usize]);
+                c = writing(s, &record, self.r);
+            }
+            READ_DF | READ_PF => {
+                let record = self.record([DF, PF][(call - READ_DF) as usize]);
+                c = reading(s, call, &record, self.r);
+                if self.r.chance(4) {
+                    let more = 1 + self.r.below(12);
+                    c.bytes.extend(self.r.noise_bytes(more));
+                }
+            }
             _ => {}
         }
         c
+    }
+
+    /// What some holder has received in a dealing with a map: now and then with wrong values, with a second h that is none, or under another map.
+    fn to_judge(&mut self) -> Received {
+        let (phi, i) = (self.map(), self.r.below(self.s.n as usize));
+        let dealing = self.mapped(&phi);
+        let mut x = self.received(&dealing, i);
+        match self.r.below(6) {
+            0 => {
+                x.judged[4] = self.r.elements(self.s.p, self.s.d());
+                x.judged[5] = self.agreeing(&x.judged[4]);
+            }
+            1 => x.judged[3] = self.map(),
+            _ => {}
+        }
+        while self.r.chance(3) {
+            let k = self.r.one(&[2, 5]);
+            self.spoil(&mut x.judged[k]);
+        }
+        x
     }
 
     /// A holder's file as the rules have it, now and then with a changed value or verdict, or with a PV or VD out of its place.
@@ -392,6 +481,58 @@ impl<'a> Draw<'a> {
         words.extend(rest.iter().flatten());
         bytes(&words)
     }
+
+    /// A holder's file with a DF as the rules have it; now and then a holder rejects, the own VD is against the judgement, or a record is out of its place,
+    /// another, there twice or gone.
+    pub fn mapped_file(&mut self) -> Vec<u8> {
+        let x = self.to_judge();
+        let mut verdicts = vec![1; self.s.n as usize];
+        if self.r.chance(3) {
+            verdicts[self.r.below(self.s.n as usize)] = 0;
+        }
+        if !self.r.chance(8) {
+            verdicts[x.holder as usize] = x.verdict(self.s);
+        }
+        let number = 1 + self.r.below(65535) as u16;
+        let mut all = self.records_of(number, &x, &verdicts);
+        let (a, b) = (self.r.below(all.len()), 1 + self.r.below(all.len() - 1));
+        match self.r.below(12) {
+            0 => all[2..].rotate_left(a.max(2) - 2),
+            1 => all.swap(a.max(1), b),
+            2 => all[a] = all[b].clone(),
+            3 => all.insert(b, all[a].clone()),
+            4 => drop(all.remove(b)),
+            _ => {}
+        }
+        bytes(&all.concat())
+    }
+}
+
+/// A dealing with a map: matrix, secrets, random entries, φ and second random entries; then every g, h, second g and second h.
+pub struct MappedDealing {
+    pub from: Vec<Vec<u16>>,
+    pub parts: [Vec<u16>; 4],
+}
+
+/// What a holder has received in a dealing with a map: its g and second g, and what it judges, as the call takes it: matrix, h, values, φ, second h and
+/// second values.
+#[derive(Clone)]
+pub struct Received {
+    pub holder: u16,
+    pub g: Vec<u16>,
+    pub g2: Vec<u16>,
+    pub judged: Vec<Vec<u16>>,
+}
+
+impl Received {
+    /// The call that judges it.
+    pub fn case(&self, s: Params) -> Case {
+        Case { call: JUDGE_MAPPED, numbers: [s.p, s.l, s.e, s.n, 0, 0, 0, 0], words: self.judged.clone(), bytes: vec![] }
+    }
+    /// Its verdict, 1 or 0.
+    pub fn verdict(&self, s: Params) -> u16 {
+        self.case(s).run().places[0]
+    }
 }
 
 /// The call that writes this record.
@@ -404,6 +545,12 @@ pub fn writing(s: Params, record: &[u16], r: &mut Random) -> Case {
         }
         PV => (15, &record[1..], vec![]),
         VD => (16, &record[1..], vec![]),
+        DF => {
+            let (g, rest) = record[3..].split_at(s.d());
+            let (h, phi) = rest.split_at(s.d());
+            (WRITE_DF, &record[1..3], vec![g.to_vec(), h.to_vec(), phi.to_vec()])
+        }
+        PF => (WRITE_PF, &record[1..], vec![]),
         _ => (17, &record[1..], vec![]),
     };
     let mut numbers = [s.p, s.l, s.e, s.n, 0, 0, 0, 0];
@@ -416,6 +563,7 @@ pub fn reading(s: Params, call: u16, record: &[u16], r: &mut Random) -> Case {
     let words = match call {
         19 => vec![r.noise(s.entries())],
         20 => vec![r.noise(s.d()), r.noise(s.d())],
+        READ_DF => vec![r.noise(s.d()), r.noise(s.d()), r.noise(s.l as usize * s.l as usize)],
         _ => vec![],
     };
     Case { call, numbers: [s.p, s.l, s.e, s.n, 0, 0, 0, 0], words, bytes: bytes(record) }
@@ -516,7 +664,7 @@ fn damage(r: &mut Random, c: &mut Case) {
         }
         4 => c.numbers[4 + r.below(4)] = r.one(&limits),
         5 if c.of().bytes == Bytes::Read => {
-            let w = r.one(&[SU, DL, PV, VD, SH, 0]);
+            let w = if MAPPED.contains(&c.call) { r.one(&[SU, DL, PV, VD, SH, DF, PF, 0]) } else { r.one(&[SU, DL, PV, VD, SH, 0]) };
             put(&mut c.bytes, 0, w);
         }
         6 if c.of().bytes == Bytes::Read => c.bytes.truncate(r.below(c.bytes.len() + 1)),
@@ -583,4 +731,10 @@ pub fn supplied(r: &mut Random, call: u16) -> Case {
 pub fn tied(r: &mut Random, call: u16) -> Case {
     let c = Draw::tied(r).case(call);
     damaged(r, c)
+}
+
+/// A holder's file with a DF.
+pub fn with_second(r: &mut Random) -> Case {
+    let bytes = if r.chance(8) { Draw::any(r).mapped_file() } else { Draw::new(r).mapped_file() };
+    damaged(r, Case { call: FILE, numbers: [0; 8], words: vec![], bytes })
 }

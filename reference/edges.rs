@@ -5,21 +5,22 @@ use crate::draw::*;
 use crate::files::{example, other_records, zeros};
 use reference::*;
 
-const READERS: [(u16, u16); 6] = [(18, SU), (19, SU), (20, DL), (21, PV), (22, VD), (23, SH)];
+/// The calls that read a record, with its mark.
+const READERS: [(u16, u16); 8] = [(18, SU), (19, SU), (20, DL), (21, PV), (22, VD), (23, SH), (READ_DF, DF), (READ_PF, PF)];
 
-fn params(p: u16, l: u16, e: u16, n: u16) -> Params {
+pub fn params(p: u16, l: u16, e: u16, n: u16) -> Params {
     Params { p, l, e, n }
 }
 
 /// Each number once.
-fn distinct<T: Ord>(mut xs: Vec<T>) -> Vec<T> {
+pub fn distinct<T: Ord>(mut xs: Vec<T>) -> Vec<T> {
     xs.sort();
     xs.dedup();
     xs
 }
 
 /// A call in order, on a points matrix if there is one.
-fn sound(r: &mut Random, call: u16, s: Params) -> Case {
+pub fn sound(r: &mut Random, call: u16, s: Params) -> Case {
     Draw::with(r, s, POINTS).case(call)
 }
 
@@ -46,12 +47,16 @@ fn needed(call: u16, s: Params) -> (Vec<usize>, usize) {
         16 | 22 => (vec![], 8),
         18 => (vec![], 10 + 2 * all),
         FIELD => (vec![], 0),
+        DEAL_MAPPED => (vec![all, l * l, d * d - l * l, l * l, (d - l) * d, d, d, d, d], 0),
+        DEAL_MAPPED_ALL => (vec![all, l * l, d * d - l * l, l * l, (d - l) * d, all, all, all, all], 0),
+        JUDGE_MAPPED => (vec![all, d, n, l * l, d, n], 0),
+        WRITE_DF | READ_DF => (vec![d, d, l * l], 6 + 4 * d + 2 * l * l),
         _ => (vec![], 10),
     }
 }
 
 /// A call on numbers that may be beyond their limits, with zeros everywhere and the lengths that they ask for, as far as a case can hold them.
-fn blank(call: u16, s: Params) -> Case {
+pub fn blank(call: u16, s: Params) -> Case {
     let (words, size) = needed(call, s);
     let words: Vec<Vec<u16>> = words.iter().map(|&k| vec![0; k.min(528)]).collect();
     let mut c = Case { call, numbers: [s.p, s.l, s.e, s.n, 0, 0, 0, 0], words, bytes: vec![0; size.min(4096)] };
@@ -89,7 +94,7 @@ fn sizes(r: &mut Random, cases: &mut Vec<Case>) {
 }
 
 /// Every slice of a case shorter and longer by one, and empty.
-fn near_lengths(c: &Case, cases: &mut Vec<Case>) {
+pub fn near_lengths(c: &Case, cases: &mut Vec<Case>) {
     for k in 0..c.words.len() {
         let mut near = [c.clone(), c.clone(), c.clone()];
         near[0].words[k].pop();
@@ -434,7 +439,7 @@ fn disagreements(r: &mut Random, cases: &mut Vec<Case>) {
 }
 
 /// A record written, and read by its readers.
-fn both(r: &mut Random, s: Params, record: &[u16], cases: &mut Vec<Case>) {
+pub fn both(r: &mut Random, s: Params, record: &[u16], cases: &mut Vec<Case>) {
     cases.push(writing(s, record, r));
     for (call, _) in READERS.iter().filter(|x| x.1 == record[0]) {
         cases.push(reading(s, *call, record, r));
@@ -444,6 +449,27 @@ fn both(r: &mut Random, s: Params, record: &[u16], cases: &mut Vec<Case>) {
 /// A setup's numbers as an SU has them.
 fn numbers_of(record: &[u16]) -> Params {
     params(record[1], record[2], record[3], record[4])
+}
+
+/// The record of a reader cut at every byte, with bytes behind, and under other marks.
+pub fn cut_and_marked(r: &mut Random, s: Params, call: u16, marks: &[u16], cases: &mut Vec<Case>) {
+    let mark = READERS.iter().find(|x| x.0 == call).unwrap().1;
+    let record = Draw::with(r, s, POINTS).record(mark);
+    let whole = reading(s, call, &record, r);
+    for k in 0..whole.bytes.len() {
+        cases.push(Case { bytes: whole.bytes[..k].to_vec(), ..whole.clone() });
+    }
+    for k in 1..4 {
+        cases.push(Case { bytes: [&whole.bytes[..], &whole.bytes[..k]].concat(), ..whole.clone() });
+    }
+    for &other in [marks, &[0, 65535, mark ^ 1, mark ^ 0x100, mark.swap_bytes()]].concat().iter() {
+        for size in [2, whole.bytes.len()] {
+            let mut c = whole.clone();
+            put(&mut c.bytes, 0, other);
+            c.bytes.truncate(size);
+            cases.push(c);
+        }
+    }
 }
 
 /// Every field of every record at its limits and past them, written and read; records cut at every byte, with bytes behind, with other marks.
@@ -478,23 +504,8 @@ fn records(r: &mut Random, cases: &mut Vec<Case>) {
                 cases.extend(near);
             }
         }
-        for (call, mark) in READERS {
-            let record = Draw::with(r, s, POINTS).record(mark);
-            let whole = reading(s, call, &record, r);
-            for k in 0..whole.bytes.len() {
-                cases.push(Case { bytes: whole.bytes[..k].to_vec(), ..whole.clone() });
-            }
-            for k in 1..4 {
-                cases.push(Case { bytes: [&whole.bytes[..], &whole.bytes[..k]].concat(), ..whole.clone() });
-            }
-            for other in [SU, DL, PV, VD, SH, 0, 65535, mark ^ 1, mark ^ 0x100, mark.swap_bytes()] {
-                for size in [2, whole.bytes.len()] {
-                    let mut c = whole.clone();
-                    put(&mut c.bytes, 0, other);
-                    c.bytes.truncate(size);
-                    cases.push(c);
-                }
-            }
+        for (call, _) in READERS.into_iter().filter(|&(call, _)| !MAPPED.contains(&call)) {
+            cut_and_marked(r, s, call, &[SU, DL, PV, VD, SH], cases);
         }
     }
     // the last holder and column of the largest sizes, and one past them
@@ -545,16 +556,19 @@ fn fault(c: &mut Case, number: u16) {
         (_, 1) => c.numbers[0] = 3,
         (18 | 19, 2) => put(&mut c.bytes, 3, 9),
         (_, 2) => c.numbers[2] = 9,
-        (18..=23, 3) => c.bytes.truncate(c.bytes.len() - 1),
-        (13..=17, 3) => c.bytes.push(0),
+        (18..=23 | READ_DF | READ_PF, 3) => c.bytes.truncate(c.bytes.len() - 1),
+        (13..=17 | WRITE_DF | WRITE_PF, 3) => c.bytes.push(0),
         (_, 3) => c.words.last_mut().unwrap().push(0),
-        (15 | 17, 4) => c.numbers[7] = s.p,
+        (15 | 17 | WRITE_PF, 4) => c.numbers[7] = s.p,
         (18 | 19, 4) => put(&mut c.bytes, 5, s.p),
         (20, 4) => put(&mut c.bytes, 3, s.p),
-        (21 | 23, 4) => put(&mut c.bytes, 4, s.p),
+        (21 | 23 | READ_PF, 4) => put(&mut c.bytes, 4, s.p),
+        (READ_DF, 4) => put(&mut c.bytes, 3 + 2 * s.d(), s.p),
+        (DEAL_MAPPED..=JUDGE_MAPPED, 4) => c.words[3][0] = s.p,
+        (WRITE_DF, 4) => c.words[2][0] = s.p,
         (7, 4) => c.words.iter_mut().take(1).for_each(|x| x.push(65535)),
         (_, 4) => c.words[0][0] = 65535,
-        (1 | 3, 5) => c.numbers[4] = s.n,
+        (1 | 3 | DEAL_MAPPED, 5) => c.numbers[4] = s.n,
         (8, 5) => c.numbers[6] = s.l,
         (9..=11, 5) => {
             c.numbers[5] |= 0x8000;
@@ -562,11 +576,11 @@ fn fault(c: &mut Case, number: u16) {
                 c.words[1].push(0);
             }
         }
-        (14 | 16, 5) => c.numbers[5] = s.n,
-        (15, 5) => c.numbers[6] = s.n,
+        (14 | 16 | WRITE_DF, 5) => c.numbers[5] = s.n,
+        (15 | WRITE_PF, 5) => c.numbers[6] = s.n,
         (17, 5) => c.numbers[6] = s.l,
-        (20 | 22, 5) => put(&mut c.bytes, 2, s.n),
-        (21, 5) => put(&mut c.bytes, 3, s.n),
+        (20 | 22 | READ_DF, 5) => put(&mut c.bytes, 2, s.n),
+        (21 | READ_PF, 5) => put(&mut c.bytes, 3, s.n),
         (23, 5) => put(&mut c.bytes, 3, s.l),
         (11, 6) => {
             c.choose(1);
@@ -574,7 +588,7 @@ fn fault(c: &mut Case, number: u16) {
         }
         (11, 7) => c.words[1] = vec![0, 0, 1],
         (_, 8) => c.bytes[0] ^= 1,
-        (14..=17, 9) => c.numbers[4] = 0,
+        (14..=17 | WRITE_DF | WRITE_PF, 9) => c.numbers[4] = 0,
         (_, 9) => put(&mut c.bytes, 1, 0),
         (5, 12) => c.words[1][0] = 2,
         (16, 12) => c.numbers[6] = 2,
@@ -585,6 +599,24 @@ fn fault(c: &mut Case, number: u16) {
 }
 
 /// Every two refusals of a call together, and all of them.
+pub fn priorities_of(c: &Case, cases: &mut Vec<Case>) {
+    let all = c.of().refusals;
+    for a in 0..all.len() {
+        for b in a..all.len() {
+            let mut faulty = c.clone();
+            fault(&mut faulty, all[b]);
+            fault(&mut faulty, all[a]);
+            cases.push(faulty);
+        }
+    }
+    for from in 0..all.len() {
+        let mut faulty = c.clone();
+        all[from..].iter().rev().for_each(|&number| fault(&mut faulty, number));
+        cases.push(faulty);
+    }
+}
+
+/// The same for every call on a setup, and for the combination.
 fn priorities(r: &mut Random, cases: &mut Vec<Case>) {
     for call in (0..24).filter(|&call| call != FILE) {
         let mut c = sound(r, call, params(7, 1, 1, 3));
@@ -592,20 +624,7 @@ fn priorities(r: &mut Random, cases: &mut Vec<Case>) {
             c.choose(7);
             c.words[1] = vec![0, 2, 4];
         }
-        let all = CALLS[call as usize].refusals;
-        for a in 0..all.len() {
-            for b in a..all.len() {
-                let mut faulty = c.clone();
-                fault(&mut faulty, all[b]);
-                fault(&mut faulty, all[a]);
-                cases.push(faulty);
-            }
-        }
-        for from in 0..all.len() {
-            let mut faulty = c.clone();
-            all[from..].iter().rev().for_each(|&number| fault(&mut faulty, number));
-            cases.push(faulty);
-        }
+        priorities_of(&c, cases);
     }
 }
 
@@ -674,15 +693,16 @@ fn files(r: &mut Random, cases: &mut Vec<Case>) {
     push(largest);
 }
 
-/// Each of these files read into 18 entries, none of them 0 before; now and then into another number of entries, which is refused.
-pub fn contents(r: &mut Random, files: &[Vec<u8>]) -> Vec<Case> {
+/// Each of these files read into as many entries as its contents are, none of them 0 before; now and then into another number of entries, which is refused.
+pub fn contents(r: &mut Random, more: &mut Random, files: &[Vec<u8>]) -> Vec<Case> {
     let mut cases = vec![];
     for (k, file) in files.iter().enumerate() {
         let mut push = |size: usize| {
-            let lent = (0..size).map(|_| 1 + r.below(65535) as u16).collect();
+            // the entries from 18 on are drawn apart: what stood before A7 stays as it is
+            let lent = (0..size).map(|at| 1 + if at < 18 || size < CONTENTS { &mut *r } else { &mut *more }.below(65535) as u16).collect();
             cases.push(Case { call: READ_FILE, numbers: [0; 8], words: vec![lent], bytes: file.clone() });
         };
-        push(18);
+        push(CONTENTS);
         if k % 12 == 0 {
             push([17, 19, 0][k / 12 % 3]);
         }

@@ -3,6 +3,7 @@
 
 use crate::cases::FILE;
 use crate::draw::*;
+use crate::maps;
 use reference::*;
 
 /// The words of document 01's example.
@@ -104,6 +105,9 @@ pub fn stored() -> (Vec<u8>, String) {
         }
     }
 
+    // those of two dealings tied by a map, from a seed of their own: what stands before them stays as it is
+    files.extend(maps::files(&mut Random(20261120)));
+
     let (mut input, mut output) = (vec![], String::new());
     for file in &files {
         input.extend((file.len() as u16).to_le_bytes());
@@ -123,6 +127,16 @@ fn with_words(r: &mut Random, s: Params, words: &str) -> Vec<u8> {
     }
 }
 
+/// The same with a DF.
+fn mapped_with_words(r: &mut Random, s: Params, words: &str) -> Vec<u8> {
+    loop {
+        let file = Draw::with(r, s, POINTS).mapped_file();
+        if holder(&file).contains(words) {
+            return file;
+        }
+    }
+}
+
 /// Files for the program `holder`, by name: what is read from standard input and what is printed. The program reads 4,096 bytes and no more.
 pub fn for_the_program() -> Vec<(&'static str, Vec<u8>, String)> {
     let mut r = Random(20140903);
@@ -133,14 +147,19 @@ pub fn for_the_program() -> Vec<(&'static str, Vec<u8>, String)> {
     let mut order = example();
     order[20] = 1; // the first PV from holder 1
     let long = [&largest[..], &vec![0; 5000 - largest.len()]].concat();
+    let (pieces, rejected) = (with_words(&mut r, key, "outcome kept"), with_words(&mut r, key, "verdict reject"));
+    let mut r = Random(20261121);
     let files = [
         ("empty", vec![]),
         ("largest", largest),
+        ("largest_mapped", mapped_with_words(&mut r, Params { p: 65521, l: 8, e: 8, n: 32 }, "mapped 7")),
         ("long", long),
+        ("mapped", mapped_with_words(&mut r, key, "mapped 3")),
         ("order", bytes(&order)),
-        ("pieces", with_words(&mut r, key, "outcome kept")),
+        ("pieces", pieces),
         ("refused", bytes(&again)),
-        ("rejected", with_words(&mut r, key, "verdict reject")),
+        ("reject_map", mapped_with_words(&mut r, key, "verdict reject map")),
+        ("rejected", rejected),
     ];
     files.map(|(name, file)| (name, file.clone(), holder(&file[..file.len().min(4096)]))).into()
 }

@@ -5,6 +5,7 @@ mod cases;
 mod draw;
 mod edges;
 mod files;
+mod maps;
 use cases::*;
 use draw::*;
 use std::collections::BTreeMap;
@@ -14,24 +15,27 @@ fn number(line: &str) -> u16 {
     line.split(' ').next().unwrap().parse().unwrap()
 }
 
+/// A drawn case, the largest files and matrices now and then only, so that what is stored stays small.
+fn small(r: &mut Random, round: usize, draw: impl Fn(&mut Random) -> Case) -> Case {
+    loop {
+        let c = draw(r);
+        if c.slices().len() < 370 || round % 20 == 0 {
+            return c;
+        }
+    }
+}
+
 /// The cases at the limits and drawn cases of every call, and the answers.
 fn stored() -> (Vec<u8>, String) {
     let mut r = Random(20140901);
     let mut all = edges::edges(&mut r);
     for round in 0..40 {
         for call in (0..DEAL_KEY).filter(|&call| call != READ_FILE) {
-            // the largest files and matrices now and then only, so that what is stored stays small
-            let c = loop {
-                let c = draw(&mut r, call);
-                if c.stored().len() < 400 || round % 20 == 0 {
-                    break c;
-                }
-            };
-            all.push(c);
+            all.push(small(&mut r, round, |r| draw(r, call)));
         }
     }
     let files: Vec<Vec<u8>> = all.iter().filter(|c| c.call == FILE).map(|c| c.bytes.clone()).collect();
-    all.extend(edges::contents(&mut r, &files));
+    all.extend(edges::contents(&mut r, &mut Random(20261119), &files));
     // board keys, from a seed of their own: what stands before them stays as it is
     let mut r = Random(20261116);
     all.extend(edges::keys(&mut r));
@@ -49,6 +53,15 @@ fn stored() -> (Vec<u8>, String) {
     all.extend(edges::rows_and_steps(&mut r));
     for _ in 0..60 {
         all.push(tied(&mut r, 8));
+    }
+    // the same for two dealings tied by a map
+    let mut r = Random(20261120);
+    all.extend(maps::cases(&mut r));
+    for round in 0..12 {
+        for call in MAPPED {
+            all.push(small(&mut r, round, |r| draw(r, call)));
+        }
+        all.push(small(&mut r, round, with_second));
     }
     let (mut input, mut output) = (vec![], String::new());
     let mut counts = vec![BTreeMap::new(); CALLS.len()];

@@ -1,4 +1,4 @@
-//! Document 01, with the requests of document 02 that have landed (A1 to A6), in plain safe Rust: every call and the holder's file, written from the
+//! Document 01, with the requests of document 02 that have landed (A1 to A7), in plain safe Rust: every call and the holder's file, written from the
 //! documents in the most direct way. It shares nothing with the proved library; the two are compared on many inputs.
 
 /// A refusal's number (0: none) and the values given beside it.
@@ -195,6 +195,77 @@ pub fn deal_all(s: Params, m: &[u16], secrets: &[u16], random: &[u16], gs: &mut 
     given(&[])
 }
 
+/// φ of the first ℓ entries of a vector: position k is row k of φ times them.
+fn image(s: &Params, phi: &[u16], v: &[u16]) -> Vec<u16> {
+    phi.chunks(s.l as usize).map(|r| dot(s.p, r.iter().copied(), v.iter().copied())).collect()
+}
+
+/// F_φ by rows: the first ℓ entries of every column are φ of those of F, the last e rows are the second lent entries, row by row.
+fn dealt_mapped(s: &Params, f: &[Vec<u16>], phi: &[u16], random2: &[u16]) -> Vec<Vec<u16>> {
+    let mut second = vec![vec![0; s.d()]; s.l as usize];
+    for b in 0..s.d() {
+        let column: Vec<u16> = f.iter().map(|r| r[b]).collect();
+        for (r, x) in second.iter_mut().zip(image(s, phi, &column)) {
+            r[b] = x;
+        }
+    }
+    second.extend(random2.chunks(s.d()).map(|r| r.to_vec()));
+    second
+}
+
+/// What a dealing with a map is made from: the secrets, the random entries, φ by rows, and the random entries of the second array.
+#[derive(Clone, Copy)]
+pub struct Mapped<'a> {
+    pub secrets: &'a [u16],
+    pub random: &'a [u16],
+    pub phi: &'a [u16],
+    pub random2: &'a [u16],
+}
+
+/// A part, or every part: the g and h of the first dealing, then those of the second.
+pub type Parts<'a> = [&'a mut [u16]; 4];
+
+fn deal_mapped_faults(s: &Params, m: &[u16], from: Mapped, parts: &Parts, size: usize) -> Faults {
+    let mut f = deal_faults(s, m, from.secrets, from.random);
+    f.length(from.phi, s.l as usize * s.l as usize);
+    f.length(from.random2, s.e as usize * s.d());
+    f.elements(s.p, from.phi);
+    f.elements(s.p, from.random2);
+    parts.iter().for_each(|part| f.length(part, size));
+    f
+}
+
+/// Holder i's parts of both arrays, in the order of `Parts`.
+fn both_parts(s: &Params, m: &[u16], from: Mapped, i: usize) -> [Vec<u16>; 4] {
+    let first = dealt(s, from.secrets, from.random);
+    let second = dealt_mapped(s, &first, from.phi, from.random2);
+    [part_g(s, m, &first, i), part_h(s, m, &first, i), part_g(s, m, &second, i), part_h(s, m, &second, i)]
+}
+
+pub fn deal_mapped(s: Params, m: &[u16], from: Mapped, holder: u16, parts: Parts) -> Answer {
+    let mut f = deal_mapped_faults(&s, m, from, &parts, s.d());
+    f.when(5, holder >= s.n);
+    if let Some(k) = f.lowest() {
+        return refused(k);
+    }
+    for (out, part) in parts.into_iter().zip(both_parts(&s, m, from, holder as usize)) {
+        out.copy_from_slice(&part);
+    }
+    given(&[])
+}
+
+pub fn deal_mapped_all(s: Params, m: &[u16], from: Mapped, mut parts: Parts) -> Answer {
+    if let Some(k) = deal_mapped_faults(&s, m, from, &parts, s.entries()).lowest() {
+        return refused(k);
+    }
+    for i in 0..s.n as usize {
+        for (out, part) in parts.iter_mut().zip(both_parts(&s, m, from, i)) {
+            out[i * s.d()..(i + 1) * s.d()].copy_from_slice(&part);
+        }
+    }
+    given(&[])
+}
+
 fn value_for(s: &Params, m: &[u16], g: &[u16], i: usize) -> u16 {
     dot(s.p, g.iter().copied(), row(s, m, i).iter().copied())
 }
@@ -240,6 +311,43 @@ pub fn judge(s: Params, m: &[u16], h: &[u16], values: &[u16]) -> Answer {
     match f.lowest() {
         Some(k) => refused(k),
         None => named(judgement(&s, m, h, values)),
+    }
+}
+
+/// Named by a rejection where only the check of the map fails: no holder.
+pub const REJECT_MAP: u16 = 65535;
+
+/// The second dealing as its holder judges it.
+#[derive(Clone, Copy)]
+pub struct Second<'a> {
+    pub phi: &'a [u16],
+    pub h: &'a [u16],
+    pub values: &'a [u16],
+}
+
+/// None accepts; Some(j) rejects and names the lowest j that differs in either dealing, or REJECT_MAP where only the map fails.
+fn judgement_mapped(s: &Params, m: &[u16], h: &[u16], values: &[u16], second: Second) -> Option<u16> {
+    let wrong = [judgement(s, m, h, values), judgement(s, m, second.h, second.values)];
+    match wrong.into_iter().flatten().min() {
+        None if second.h[..s.l as usize] != image(s, second.phi, h) => Some(REJECT_MAP),
+        lowest => lowest,
+    }
+}
+
+pub fn judge_mapped(s: Params, m: &[u16], h: &[u16], values: &[u16], second: Second) -> Answer {
+    let mut f = Faults::of(&s);
+    f.length(m, s.entries());
+    f.length(h, s.d());
+    f.length(values, s.n as usize);
+    f.length(second.phi, s.l as usize * s.l as usize);
+    f.length(second.h, s.d());
+    f.length(second.values, s.n as usize);
+    for xs in [m, h, values, second.phi, second.h, second.values] {
+        f.elements(s.p, xs);
+    }
+    match f.lowest() {
+        Some(k) => refused(k),
+        None => named(judgement_mapped(&s, m, h, values, second)),
     }
 }
 
@@ -521,6 +629,8 @@ pub const DL: u16 = 0x4C44;
 pub const PV: u16 = 0x5650;
 pub const VD: u16 = 0x4456;
 pub const SH: u16 = 0x4853;
+pub const DF: u16 = 0x4644;
+pub const PF: u16 = 0x4650;
 
 /// Words as bytes, low byte first.
 pub fn bytes(words: &[u16]) -> Vec<u8> {
@@ -590,9 +700,24 @@ pub fn write_dealing(s: Params, dealing: u16, holder: u16, g: &[u16], h: &[u16],
     write(s, &[&[DL, dealing, holder], g, h].concat(), f, out)
 }
 
+/// DF: a holder's part of a second dealing, and φ.
+pub fn write_mapped_dealing(s: Params, dealing: u16, holder: u16, [g, h, phi]: [&[u16]; 3], out: &mut [u8]) -> Answer {
+    let mut f = dealing_faults(&s, dealing, holder, g, h);
+    f.elements(s.p, phi);
+    f.length(g, s.d());
+    f.length(h, s.d());
+    f.length(phi, s.l as usize * s.l as usize);
+    write(s, &[&[DF, dealing, holder], g, h, phi].concat(), f, out)
+}
+
 /// PV: the value that one holder sends another.
 pub fn write_pair_value(s: Params, dealing: u16, from: u16, to: u16, value: u16, out: &mut [u8]) -> Answer {
     write(s, &[PV, dealing, from, to, value], pair_faults(&s, [dealing, from, to, value]), out)
+}
+
+/// PF: the same of the second dealing.
+pub fn write_mapped_pair_value(s: Params, dealing: u16, from: u16, to: u16, value: u16, out: &mut [u8]) -> Answer {
+    write(s, &[PF, dealing, from, to, value], pair_faults(&s, [dealing, from, to, value]), out)
 }
 
 /// VD: a holder's verdict, 1 accept or 0 reject.
@@ -653,6 +778,19 @@ fn dealing_fields(s: &Params, part: &[u8]) -> Result<(u16, u16, Vec<u16>, Vec<u1
     Ok((dealing, holder, g, h))
 }
 
+/// A DF whose mark was seen: dealing number and holder, then g, h and φ.
+type MappedFields = ([u16; 2], [Vec<u16>; 3]);
+
+/// The fields of a DF whose mark was seen, and the refusals that they give.
+fn mapped_fields(s: &Params, part: &[u8]) -> Result<(MappedFields, Faults), u16> {
+    let all = words(part, 3 + 2 * s.d() + s.l as usize * s.l as usize)?;
+    let (g, rest) = all[3..].split_at(s.d());
+    let (h, phi) = rest.split_at(s.d());
+    let mut f = dealing_faults(s, all[1], all[2], g, h);
+    f.elements(s.p, phi);
+    Ok((([all[1], all[2]], [g, h, phi].map(|x| x.to_vec())), f))
+}
+
 fn answer(found: Result<Vec<u16>, u16>) -> Answer {
     found.map_or_else(refused, |values| given(&values))
 }
@@ -675,7 +813,7 @@ pub fn read_setup_matrix(part: &[u8], matrix: &mut [u16]) -> Answer {
     answer(found)
 }
 
-/// Reads a DL, PV, VD or SH at the start of a part: what is lent first, then the mark, then the rest.
+/// Reads a record other than SU at the start of a part: what is lent first, then the mark, then the rest.
 fn read(lent: Faults, part: &[u8], wanted: u16, rest: impl FnOnce() -> Result<Vec<u16>, u16>) -> Answer {
     answer(lent.check().and_then(|()| expect(part, wanted)).and_then(|()| rest()))
 }
@@ -693,13 +831,39 @@ pub fn read_dealing(s: Params, part: &[u8], g: &mut [u16], h: &mut [u16]) -> Ans
     })
 }
 
-/// The four fields of a PV.
-pub fn read_pair_value(s: Params, part: &[u8]) -> Answer {
-    read(Faults::of(&s), part, PV, || {
+/// The dealing number and holder of a DF, with its g, h and φ.
+pub fn read_mapped_dealing(s: Params, part: &[u8], [g, h, phi]: [&mut [u16]; 3]) -> Answer {
+    let mut lent = Faults::of(&s);
+    lent.length(g, s.d());
+    lent.length(h, s.d());
+    lent.length(phi, s.l as usize * s.l as usize);
+    read(lent, part, DF, || {
+        let ((numbers, lists), f) = mapped_fields(&s, part)?;
+        f.check()?;
+        for (out, list) in [g, h, phi].into_iter().zip(lists) {
+            out.copy_from_slice(&list);
+        }
+        Ok(numbers.to_vec())
+    })
+}
+
+/// The four fields of a PV or a PF.
+fn read_pair(s: Params, part: &[u8], wanted: u16) -> Answer {
+    read(Faults::of(&s), part, wanted, || {
         let x = fields(part)?;
         pair_faults(&s, x).check()?;
         Ok(x.to_vec())
     })
+}
+
+/// The four fields of a PV.
+pub fn read_pair_value(s: Params, part: &[u8]) -> Answer {
+    read_pair(s, part, PV)
+}
+
+/// The four fields of a PF.
+pub fn read_mapped_pair_value(s: Params, part: &[u8]) -> Answer {
+    read_pair(s, part, PF)
 }
 
 /// The three fields of a VD.
@@ -729,8 +893,12 @@ struct Holder {
     holder: u16,
     g: Vec<u16>,
     h: Vec<u16>,
+    /// The g, h and φ of a DF.
+    second: Option<[Vec<u16>; 3]>,
     /// From holder 0 on.
     values: Vec<u16>,
+    /// The same of the second dealing.
+    values2: Vec<u16>,
     /// Of holder 0 on.
     verdicts: Vec<u16>,
 }
@@ -738,7 +906,7 @@ struct Holder {
 /// The refusal and the byte where the faulty record starts.
 type Fault = (u16, usize);
 
-/// The mark that a part of a file starts with: one with a place there, or 10 for a second SU or DL, or 8.
+/// The mark that a part of a file starts with: one with a place there, or 10 for a second SU, DL or DF, or 8.
 fn mark_in_place(part: &[u8], place: &[u16], seen: &[u16]) -> Result<u16, u16> {
     match mark(part)? {
         x if seen.contains(&x) => Err(10),
@@ -757,33 +925,47 @@ fn first_record(part: &[u8]) -> Result<(Params, Vec<u16>), u16> {
 fn second_record(s: Params, m: Vec<u16>, part: &[u8]) -> Result<Holder, u16> {
     mark_in_place(part, &[DL], &[SU])?;
     let (dealing, holder, g, h) = dealing_fields(&s, part)?;
-    Ok(Holder { s, m, dealing, holder, g, h, values: vec![], verdicts: vec![] })
+    Ok(Holder { s, m, dealing, holder, g, h, second: None, values: vec![], values2: vec![], verdicts: vec![] })
 }
 
-/// Takes in a PV or VD and gives its size. The PV come by sender and then the VD by holder, so that one from a holder already heard is there twice.
+/// Takes in the DF of a file, whose mark was seen, and gives its size.
+fn second_dealing(x: &mut Holder, part: &[u8]) -> Result<usize, u16> {
+    let (([dealing, holder], lists), mut f) = mapped_fields(&x.s, part)?;
+    f.when(5, holder != x.holder);
+    f.when(9, dealing != x.dealing);
+    f.check()?;
+    x.second = Some(lists);
+    Ok(6 + 4 * x.s.d() + 2 * x.s.l as usize * x.s.l as usize)
+}
+
+/// Takes in a PV, PF or VD and gives its size. They come in one order, the PV by sender, with a DF the PF by sender, then the VD by holder: one before the
+/// next that is due is there twice, one behind it comes too early.
 fn later_record(x: &mut Holder, part: &[u8]) -> Result<usize, u16> {
-    if mark_in_place(part, &[PV, VD], &[SU, DL])? == PV {
-        let all @ [dealing, from, to, value] = fields(part)?;
-        let next = x.values.len();
-        let mut f = pair_faults(&x.s, all);
-        f.when(5, to != x.holder);
-        f.when(9, dealing != x.dealing);
-        f.when(10, (from as usize) < next);
-        f.when(17, from as usize != next);
-        f.check()?;
-        x.values.push(value);
-        Ok(10)
-    } else {
+    let (place, seen): (&[u16], &[u16]) = if x.second.is_some() { (&[PV, PF, VD], &[SU, DL, DF]) } else { (&[PV, VD], &[SU, DL]) };
+    let mark = mark_in_place(part, place, seen)?;
+    let n = x.s.n as usize;
+    let due = x.values.len() + x.values2.len() + x.verdicts.len();
+    let in_turn = |f: &mut Faults, before: usize, holder: u16| {
+        f.when(10, before + (holder as usize) < due);
+        f.when(17, before + holder as usize > due);
+    };
+    if mark == VD {
         let all @ [dealing, from, verdict] = fields(part)?;
-        let next = x.verdicts.len();
         let mut f = verdict_faults(&x.s, all);
         f.when(9, dealing != x.dealing);
-        f.when(10, (from as usize) < next);
-        f.when(17, x.values.len() < x.s.n as usize || from as usize != next);
+        in_turn(&mut f, if x.second.is_some() { 2 * n } else { n }, from);
         f.check()?;
         x.verdicts.push(verdict);
-        Ok(8)
+        return Ok(8);
     }
+    let all @ [dealing, from, to, value] = fields(part)?;
+    let mut f = pair_faults(&x.s, all);
+    f.when(5, to != x.holder);
+    f.when(9, dealing != x.dealing);
+    in_turn(&mut f, if mark == PF { n } else { 0 }, from);
+    f.check()?;
+    if mark == PF { &mut x.values2 } else { &mut x.values }.push(value);
+    Ok(10)
 }
 
 /// All records of a file.
@@ -799,6 +981,9 @@ fn read_records(file: &[u8]) -> Result<Holder, Fault> {
     }
     let mut x = second_record(s, m, &file[at..]).map_err(|k| (k, at))?;
     at += 6 + 4 * s.d();
+    if mark(&file[at..]) == Ok(DF) {
+        at += second_dealing(&mut x, &file[at..]).map_err(|k| (k, at))?;
+    }
     while at < file.len() {
         at += later_record(&mut x, &file[at..]).map_err(|k| (k, at))?;
     }
@@ -810,23 +995,29 @@ struct Contents {
     s: Params,
     dealing: u16,
     holder: u16,
-    /// The sender that the own judgement rejects.
+    /// The sender that the own judgement rejects, or REJECT_MAP.
     rejected: Option<u16>,
     /// The holder that the outcome names.
     aborted: Option<u16>,
     shares: Vec<u16>,
+    /// With a DF, the shares of the second dealing.
+    mapped: Option<Vec<u16>>,
 }
 
 /// Reads a file to its end, and judges.
 fn contents_of(file: &[u8]) -> Result<Contents, Fault> {
     let x = read_records(file)?;
-    let rejected = judgement(&x.s, &x.m, &x.h, &x.values);
+    let rejected = match &x.second {
+        None => judgement(&x.s, &x.m, &x.h, &x.values),
+        Some([_, h, phi]) => judgement_mapped(&x.s, &x.m, &x.h, &x.values, Second { phi, h, values: &x.values2 }),
+    };
     if x.verdicts[x.holder as usize] != rejected.is_none() as u16 {
         return Err((13, file.len()));
     }
     let aborted = x.verdicts.iter().position(|&v| v == 0).map(|i| i as u16);
-    let shares = if aborted.is_none() { x.g[..x.s.l as usize].to_vec() } else { vec![] };
-    Ok(Contents { s: x.s, dealing: x.dealing, holder: x.holder, rejected, aborted, shares })
+    let kept = |g: &[u16]| if aborted.is_none() { g[..x.s.l as usize].to_vec() } else { vec![] };
+    let mapped = x.second.as_ref().map(|[g, ..]| kept(g));
+    Ok(Contents { s: x.s, dealing: x.dealing, holder: x.holder, rejected, aborted, shares: kept(&x.g), mapped })
 }
 
 /// What the holder program prints of a file's contents.
@@ -835,6 +1026,7 @@ fn text(c: &Contents) -> String {
     text += &format!("dealing {} holder {}\n", c.dealing, c.holder);
     text += &match c.rejected {
         None => "verdict accept\n".to_string(),
+        Some(REJECT_MAP) => "verdict reject map\n".to_string(),
         Some(j) => format!("verdict reject {j}\n"),
     };
     text += &match c.aborted {
@@ -843,6 +1035,9 @@ fn text(c: &Contents) -> String {
     };
     for (b, share) in c.shares.iter().enumerate() {
         text += &format!("share {b} {share}\n");
+    }
+    for (b, share) in c.mapped.iter().flatten().enumerate() {
+        text += &format!("mapped {b} {share}\n");
     }
     text
 }
@@ -859,26 +1054,37 @@ fn refused_at((number, byte): Fault) -> Answer {
     Answer { number, values: vec![byte as u16] }
 }
 
-/// What a file says, into a buffer of 18 entries; a refusal of the file with its byte.
+/// How many numbers a file's contents are.
+pub const CONTENTS: usize = 27;
+/// Bytes lent for a file's text.
+pub const TEXT: usize = 512;
+
+/// What a file says, into a buffer of CONTENTS entries; a refusal of the file with its byte.
 pub fn read_file(file: &[u8], contents: &mut [u16]) -> Answer {
-    if file.len() > 4096 || contents.len() != 18 {
+    if file.len() > 4096 || contents.len() != CONTENTS {
         return refused(3);
     }
     match contents_of(file) {
         Ok(c) => {
             let named = |x: Option<u16>| [x.is_none() as u16, x.unwrap_or(0)];
-            let all = [&[c.s.p, c.s.l, c.s.e, c.s.n, c.dealing, c.holder], &named(c.rejected)[..], &named(c.aborted), &c.shares].concat();
             contents.fill(0);
-            contents[..all.len()].copy_from_slice(&all);
+            contents[..6].copy_from_slice(&[c.s.p, c.s.l, c.s.e, c.s.n, c.dealing, c.holder]);
+            contents[6..8].copy_from_slice(&named(c.rejected));
+            contents[8..10].copy_from_slice(&named(c.aborted));
+            contents[10..10 + c.shares.len()].copy_from_slice(&c.shares);
+            if let Some(mapped) = c.mapped {
+                contents[18] = 1;
+                contents[19..19 + mapped.len()].copy_from_slice(&mapped);
+            }
             given(&[])
         }
         Err(fault) => refused_at(fault),
     }
 }
 
-/// The text of a file, into a buffer of 256 bytes, and how many of them it is; a refusal of the file with its byte.
+/// The text of a file, into a buffer of TEXT bytes, and how many of them it is; a refusal of the file with its byte.
 pub fn holder_file(file: &[u8], out: &mut [u8]) -> Answer {
-    if file.len() > 4096 || out.len() != 256 {
+    if file.len() > 4096 || out.len() != TEXT {
         return refused(3);
     }
     match contents_of(file) {
