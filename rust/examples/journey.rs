@@ -20,13 +20,16 @@ struct Twin<'a> {
 
 /// A fixed generator, so that the example prints the same each time. A real dealer must draw each entry evenly below p from a secure source:
 /// whoever can guess the random entries learns the key from a single part.
-fn drawn(seed: u64, count: usize) -> Vec<u16> {
-    let mut state = seed;
-    let mut next = || {
-        state = state.wrapping_mul(6364136223846793005).wrapping_add(1442695040888963407);
-        ((state >> 33) % SETUP.p as u64) as u16
-    };
-    (0..count).map(|_| next()).collect()
+struct Source(u64);
+
+impl Source {
+    fn drawn(&mut self, count: usize) -> Vec<u16> {
+        let mut next = || {
+            self.0 = self.0.wrapping_mul(6364136223846793005).wrapping_add(1442695040888963407);
+            ((self.0 >> 33) % SETUP.p as u64) as u16
+        };
+        (0..count).map(|_| next()).collect()
+    }
 }
 
 fn part(parts: &[u16], holder: u16) -> &[u16] {
@@ -118,8 +121,8 @@ fn spaced(numbers: &[u16]) -> String {
 }
 
 /// Twin boards: two keys tied by a public map are dealt together, and the holders check the map as well.
-fn twin_boards(matrix: &[u16], dealt: &[u16], seven: u32) -> Result<(), Refusal> {
-    let (random, random2) = (drawn(7, SETUP.random()), drawn(8, SETUP.random2()));
+fn twin_boards(matrix: &[u16], dealt: &[u16], seven: u32, source: &mut Source) -> Result<(), Refusal> {
+    let (random, random2) = (source.drawn(SETUP.random()), source.drawn(SETUP.random2()));
     let secrets = MappedSecrets { secrets: dealt, random: &random, phi: &PHI, random2: &random2 };
     let [mut gs, mut hs, mut gs2, mut hs2] = [[0; 112]; 4];
     SETUP.deal_mapped_all(matrix, &secrets, MappedParts { g: &mut gs, h: &mut hs, g2: &mut gs2, h2: &mut hs2 })?;
@@ -145,7 +148,7 @@ fn twin_boards(matrix: &[u16], dealt: &[u16], seven: u32) -> Result<(), Refusal>
     println!("opened by seven: column 1 is {}, the twin's is its map, {}", spaced(&column), spaced(&second));
 
     // A dealer whose second dealing is sound, but of another key than the map gives: all values agree, and the check of the map fails.
-    SETUP.deal_all(matrix, dealt, &drawn(9, SETUP.random()), &mut gs2, &mut hs2)?;
+    SETUP.deal_all(matrix, dealt, &source.drawn(SETUP.random()), &mut gs2, &mut hs2)?;
     let found = judgements_mapped(matrix, &gs, &hs, &Twin { gs: &gs2, hs: &hs2 })?;
     assert_eq!(found, vec![Judgement::RejectMap; 16]);
     assert_eq!(SETUP.outcome(part(&gs2, 0), &verdicts(&found), &mut shares2[0])?, Outcome::Aborted(0));
@@ -160,9 +163,9 @@ pub fn main() -> Result<(), Refusal> {
     println!("points matrix: {} rows of {D}", HOLDERS);
 
     // The dealer: a key of 16 bytes as four columns of four.
-    let key = Key::from_bytes(*b"sixteen-byte key");
+    let (key, mut source) = (Key::from_bytes(*b"sixteen-byte key"), Source(2014));
     let (mut gs, mut hs) = (vec![0; SETUP.entries()], vec![0; SETUP.entries()]);
-    deal_key(&key, &drawn(2014, SETUP.random()), &mut gs, &mut hs)?;
+    deal_key(&key, &source.drawn(SETUP.random()), &mut gs, &mut hs)?;
     assert_eq!(SETUP.rehearse(&matrix, &gs, &hs)?, Rehearsal::Fair);
     println!("dealt: four columns to {HOLDERS} holders; the rehearsal is fair");
 
@@ -249,7 +252,7 @@ pub fn main() -> Result<(), Refusal> {
     // opens is no key.
     let mut array = dealt.clone();
     array[6] = 256;
-    SETUP.deal_all(&matrix, &array, &drawn(256, SETUP.random()), &mut gs, &mut hs)?;
+    SETUP.deal_all(&matrix, &array, &source.drawn(SETUP.random()), &mut gs, &mut hs)?;
     assert_eq!(judgements(&matrix, &gs, &hs)?, vec![Judgement::Accept; 16]);
     for i in 0..HOLDERS {
         assert_eq!(SETUP.outcome(part(&gs, i), &said, &mut shares[i as usize])?, Outcome::Kept);
@@ -257,5 +260,5 @@ pub fn main() -> Result<(), Refusal> {
     assert_eq!(open_key(0xffff, &handed(&shares, 0xffff)).err(), Some(Refusal::NoByte));
     println!("256 dealt for a byte: all accept; opened by all, it is no key: {}", Refusal::NoByte);
 
-    twin_boards(&matrix, &dealt, seven)
+    twin_boards(&matrix, &dealt, seven, &mut source)
 }
