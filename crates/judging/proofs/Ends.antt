@@ -1,4 +1,5 @@
--- What the end of a search makes of an answer: a judgement from the lowest value that differs, an outcome from the lowest holder that said reject.
+-- What the end of a search makes of an answer: a judgement from the lowest value that differs, in one dealing or in two with the check of their map,
+-- an outcome from the lowest holder that said reject.
 use mathlib.Core.Path.{_≡_, refl, ap}
 use mathlib.Core.Bool.{Bool, true, false}
 use mathlib.Core.List.{List}
@@ -9,11 +10,11 @@ use Rattle.base.specs.Choice.{pick}
 use Rattle.base.specs.Search.{first}
 use Rattle.field.specs.Dot.{at}
 use Rattle.scheme.specs.Setup.{Setup}
-use Rattle.scheme.specs.declared.Judgement.the-variants.{Accept, Reject}
+use Rattle.scheme.specs.declared.Judgement.the-variants.{Accept, Reject, RejectMap}
 use Rattle.scheme.specs.declared.Fate.{Fate}
 use Rattle.scheme.specs.declared.Fate.the-variants.{Kept, Aborted}
 use Rattle.scheme.specs.Answers.{paperFate}
-use Rattle.scheme.specs.Dealing.{differs, judgementOf, saidReject, isKept, fateOf}
+use Rattle.scheme.specs.Dealing.{differs, judgementOf, saidReject, isKept, fateOf, differsIn, mapHolds, judgementMapped}
 
 module _ (S : Setup) (h values : List ℕ) (j : ℕ) (e : j ≡ first (differs S h values) (S .n)) where
   pub rejects-at : j < S .n → Reject j ≡ judgementOf S h values
@@ -23,6 +24,15 @@ module _ (S : Setup) (h values : List ℕ) (j : ℕ) (e : j ≡ first (differs S
   pub accepts-at : S .n ≤ j → Accept ≡ judgementOf S h values
   unfolding judgementOf
   accepts-at l = rw (← e, le-ltb j (S .n) l)
+
+module _ (S : Setup) (h values phi h2 values2 : List ℕ) (j : ℕ) (e : j ≡ first (differsIn S h values h2 values2) (S .n)) where
+  pub named-at : j < S .n → Reject j ≡ judgementMapped S h values phi h2 values2
+  unfolding judgementMapped
+  named-at l = rw (← e, lt-ltb j (S .n) l)
+
+  pub map-decides : S .n ≤ j → (b : Bool) → b ≡ mapHolds S h phi h2 → pick b Accept RejectMap ≡ judgementMapped S h values phi h2 values2
+  unfolding judgementMapped
+  map-decides l b m = rw (← e, le-ltb j (S .n) l, m)
 
 module _ (S : Setup) (verdicts : List ℕ) (i : ℕ) (e : i ≡ first (saidReject verdicts) (S .n)) where
   pub aborted-at : i < S .n → Aborted i ≡ fateOf S verdicts

@@ -1,3 +1,4 @@
 pub mod Products
 pub mod Pairs
+pub mod Lowest
 pub mod Ends

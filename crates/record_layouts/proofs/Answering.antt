@@ -10,7 +10,7 @@ use lib.ListN.{length}
 use borrow.Author.Tests.{eqb-true, eq-eqb, ne-eqb, lt-leb}
 use Rattle.base.specs.Rules.{refusal, Clear, Answer, given, answerBy}
 use Rattle.base.proofs.Rules.{accepted}
-use Rattle.scheme.specs.Setup.{Setup, dim, IsSetup}
+use Rattle.scheme.specs.Setup.{Setup, dim, Limits, IsSetup}
 use Rattle.scheme.specs.Calls.{matrix, room, elements}
 use Rattle.scheme.specs.Answering.{Answers}
 use Rattle.scheme.proofs.Calls.{limits-clear, size-clear, elements-clear, accepts}
@@ -20,11 +20,12 @@ use Rattle.record_layouts.specs.declared.DealingRecord.{DealingRecord}
 use Rattle.record_layouts.specs.declared.PairRecord.{PairRecord}
 use Rattle.record_layouts.specs.declared.VerdictRecord.{VerdictRecord}
 use Rattle.record_layouts.specs.declared.ShareRecord.{ShareRecord}
-use Rattle.record_layouts.specs.Records.{dealingLent, writeRules, readRules, setupWords, setupSize, writeSetupRules, readSetupRules, readMatrixRules}
+use Rattle.record_layouts.specs.Records.{dealingLent, writeRules, writeCall, readRules, readCall, setupWords, setupSize, writeSetupRules, readSetupRules, readMatrixRules}
 use Rattle.record_layouts.specs.Records.{parts, dealingWords, dealingSize, dealingFaults, dealingLayout, readDealingRules}
-use Rattle.record_layouts.specs.Records.{pairWords, pairSize, pairFaults, pairLayout, verdictWords, verdictSize, verdictFaults, verdictLayout, shareWords, shareSize, shareFaults, shareLayout}
+use Rattle.record_layouts.specs.Records.{markPV, markPF, pairSize, pairAt, pairValues, pairFaults, pairLayoutOf, pairLayout, mappedPairLayout, verdictWords, verdictSize, verdictFaults, verdictLayout, shareWords, shareSize, shareFaults, shareLayout}
+use Rattle.record_layouts.specs.Records.{mappedParts, mappedWords, mappedSize, mappedLayout, mappedLent, readMappedRules}
 use Rattle.record_layouts.specs.Answering.{RecordsMarked, WritersRising, DealingInOrder, PairInOrder, VerdictInOrder, ShareInOrder, RecordsAnswering}
-use Rattle.record_layouts.proofs.Layouts.{dealing-lawful, pair-lawful, verdict-lawful, share-lawful}
+use Rattle.record_layouts.proofs.Layouts.{dealing-lawful, mapped-lawful, pair-lawful, verdict-lawful, share-lawful}
 use Rattle.record_layouts.proofs.Calls.{matrix-as-setup}
 use Rattle.record_layouts.proofs.ReadBack.{fair, setup-at, setup-fair}
 
@@ -37,8 +38,12 @@ records-marked =
       read-matrix = λ s m. marked-by (refusal (readMatrixRules s (length m))) (given []) refl;
       write-dealing = λ S x g h out. marked-by (refusal (writeRules dealingLayout S (parts x g h) (length out))) (given []) refl;
       read-dealing = λ S s g h. marked-by (refusal (readDealingRules S s (length g) (length h))) (given _) refl;
+      write-mapped = λ S x g h phi out. marked-by (refusal (writeRules mappedLayout S (mappedParts x g h phi) (length out))) (given []) refl;
+      read-mapped = λ S s g h phi. marked-by (refusal (readMappedRules S s (length g) (length h) (length phi))) (given _) refl;
       write-pair = λ S x out. marked-by (refusal (writeRules pairLayout S x (length out))) (given []) refl;
       read-pair = λ S s. marked-by (refusal (readRules pairLayout S [] s)) (given _) refl;
+      write-mapped-pair = λ S x out. marked-by (refusal (writeRules mappedPairLayout S x (length out))) (given []) refl;
+      read-mapped-pair = λ S s. marked-by (refusal (readRules mappedPairLayout S [] s)) (given _) refl;
       write-verdict = λ S x out. marked-by (refusal (writeRules verdictLayout S x (length out))) (given []) refl;
       read-verdict = λ S s. marked-by (refusal (readRules verdictLayout S [] s)) (given _) refl;
       write-share = λ S x out. marked-by (refusal (writeRules shareLayout S x (length out))) (given []) refl;
@@ -48,7 +53,15 @@ records-marked =
 -- THE LOWEST NUMBER
 pub writers-rising : WritersRising
 writers-rising =
-    record { setup = λ S k. tt; dealing = λ S x k. tt; pair = λ S x k. tt; verdict = λ S x k. tt; share = λ S x k. tt }
+    record {
+      setup = λ S k. tt;
+      dealing = λ S x k. tt;
+      mapped = λ S x k. tt;
+      pair = λ S x k. tt;
+      mapped-pair = λ S x k. tt;
+      verdict = λ S x k. tt;
+      share = λ S x k. tt;
+    }
 
 -- INPUTS THAT BREAK NOTHING
 pub answers-by : (r : ℕ) (vs : List ℕ) → r ≡ 0 → Answers (answerBy r (given vs))
@@ -68,6 +81,16 @@ pair-clear S x w = (
     ),
   ),
 )
+
+-- PV and PF, whatever the mark
+module _ (mark : ℕ) (S : Setup) (x : PairRecord) (L : Limits S) (w : PairInOrder S x) where
+  pair-written : (out : List ℕ) → length out ≡ pairSize → Answers (writeCall (pairLayoutOf mark) S x out)
+  pair-written out e =
+      answers-by (refusal (writeRules (pairLayoutOf mark) S x (length out))) [] (accepts S (room (length out) pairSize ∷ []) (pairFaults S x) L (e, tt) (pair-clear S x w))
+
+  pair-answered : (rest : List ℕ) → let s = bytes (mark ∷ pairValues x) ++ rest in Answers (readCall (pairLayoutOf mark) S [] s (pairValues (pairAt s)))
+  pair-answered rest =
+      answers-by (refusal (readRules (pairLayoutOf mark) S [] (bytes (mark ∷ pairValues x) ++ rest))) _ (fair (pairLayoutOf mark) (pair-lawful mark) S x rest [] L tt (pair-clear S x w) tt)
 
 verdict-clear : (S : Setup) (x : VerdictRecord) → VerdictInOrder S x → Clear (verdictFaults S x)
 verdict-clear S x w =
@@ -103,10 +126,19 @@ records-answering =
           (fair dealingLayout dealing-lawful S (parts x g h) rest (dealingLent S (length a) (length b)) L
           (size-clear _ _ (w .row .size), (size-clear _ _ (w .column .size), tt))
           (elements-clear (S .p) _ g (w .row), (elements-clear (S .p) _ h (w .column), dealing-clear S x g h w)) (i, (j, tt)));
-      write-pair = λ S x out L w e.
-          answers-by (refusal (writeRules pairLayout S x (length out))) [] (accepts S (room (length out) pairSize ∷ []) (pairFaults S x) L (e, tt) (pair-clear S x w));
-      read-pair = λ S x rest L w.
-          answers-by (refusal (readRules pairLayout S [] (bytes (pairWords x) ++ rest))) _ (fair pairLayout pair-lawful S x rest [] L tt (pair-clear S x w) tt);
+      write-mapped = λ S x g h phi out L w v e.
+          answers-by (refusal (writeRules mappedLayout S (mappedParts x g h phi) (length out))) []
+          (accepts S (room (length out) (mappedSize S) ∷ elements g (dim S) ∷ elements h (dim S) ∷ elements phi (S .l * S .l) ∷ []) (dealingFaults S x) L
+          (e, (w .row, (w .column, (v, tt)))) (dealing-clear S x g h w));
+      read-mapped = λ S x g h phi rest a b c L w v i j k.
+          answers-by (refusal (readMappedRules S (bytes (mappedWords x g h phi) ++ rest) (length a) (length b) (length c))) _
+          (fair mappedLayout mapped-lawful S (mappedParts x g h phi) rest (mappedLent S (length a) (length b) (length c)) L
+          (size-clear _ _ (w .row .size), (size-clear _ _ (w .column .size), (size-clear _ _ (v .size), tt)))
+          (elements-clear (S .p) _ g (w .row), (elements-clear (S .p) _ h (w .column), (elements-clear (S .p) _ phi v, dealing-clear S x g h w))) (i, (j, (k, tt))));
+      write-pair = λ S x out L w e. pair-written markPV S x L w out e;
+      read-pair = λ S x rest L w. pair-answered markPV S x L w rest;
+      write-mapped-pair = λ S x out L w e. pair-written markPF S x L w out e;
+      read-mapped-pair = λ S x rest L w. pair-answered markPF S x L w rest;
       write-verdict = λ S x out L w e.
           answers-by (refusal (writeRules verdictLayout S x (length out))) [] (accepts S (room (length out) verdictSize ∷ []) (verdictFaults S x) L (e, tt) (verdict-clear S x w));
       read-verdict = λ S x rest L w.

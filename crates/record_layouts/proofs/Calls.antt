@@ -4,32 +4,45 @@ use mathlib.Core.Bool.{Bool, false, not}
 use mathlib.Core.List.{List, [], _∷_, _++_}
 use Prim.Native.Nat.{ℕ, zero, suc, _+_, _*_, _≤_, _<_}
 use native.Mathlib.Omega.{arith}
-use native.Mathlib.Nat.{mul-le-mul}
-use lib.Dec.{ltb}
+use native.Mathlib.Nat.{add-zero, mul-le-mul}
+use lib.Dec.{ltb, T}
 use lib.ListN.{length}
 use borrow.Author.Tests.{eq-eqb, ne-eqb, lt-ltb, le-ltb, ltb-false}
 use Rattle.base.specs.Rules.{Rule, _when_, orWhen, refusalFrom, refusal}
 use Rattle.base.specs.Matrix.{allBelow}
-use Rattle.base.proofs.Rules.{clear, clear-left, joined, stays, refusal-after}
+use Rattle.base.proofs.Rules.{positive, clear, clear-left, joined, stays, refusal-after}
 use Rattle.scheme.specs.declared.Params.{Params}
 use Rattle.scheme.specs.Setup.{Setup, dim, Limits, IsSetup}
-use Rattle.scheme.specs.Calls.{limits, size, beyondField}
-use Rattle.scheme.proofs.Calls.{limits-are, limits-pos, size-is, size-clear, vec-of, in-order}
+use Rattle.scheme.specs.Calls.{Lent, limits, size, beyondField}
+use Rattle.scheme.proofs.Calls.{limits-are, limits-pos, size-is, size-clear, vec-of, InOrder, in-order}
 use Rattle.record_layouts.specs.declared.DealingRecord.{DealingRecord}
 use Rattle.record_layouts.specs.Words.{wordAt, wordsAt}
-use Rattle.record_layouts.proofs.Words.{length-words}
-use Rattle.record_layouts.specs.Records.{due, Layout, markSU, setupSize, setupAt, dueSetup, readSetupRules, readMatrixRules, paramsAt, markDL, dealingSize, dealingAt, dealingG, dealingH, dealingFaults, standingRules, dealingLayout, dealingLent, readDealingRules}
+use Rattle.record_layouts.proofs.Words.{length-words, below-words, every-none}
+use Rattle.record_layouts.specs.Records.{due, Layout, markSU, setupSize, setupAt, dueSetup, readSetupRules, readMatrixRules, paramsAt, standingRules, readRules}
+use Rattle.record_layouts.specs.Records.{markDL, dealingSize, dealingAt, dealingG, dealingH, dealingFaults, dealingLayout, dealingLent, readDealingRules, mappedSize, mappedLayout, mappedLent, readMappedRules}
+use Rattle.record_layouts.specs.Inner.{partsRules}
+use Rattle.record_layouts.proofs.Layouts.{Lawful, dealing-lawful, mapped-lawful}
 
 -- a rule that does not hold leaves what stands
 pub passed-over : (r k : ℕ) (l : List Rule) → refusalFrom r ((k when false) ∷ l) ≡ refusalFrom r l
 passed-over zero k l = refl
 passed-over (suc r) k l = refl
 
+-- a table in two parts, gone through with a return between them: what the first part gives stays; where it gives nothing, the second decides
+pub by-first : (first then : List Rule) (a : ℕ) → a ≡ refusal first → (a ≡ 0 → ⊥) → a ≡ refusal (first ++ then)
+by-first first then a e n = e ∙ stays (refusal first) then (λ z. n (e ∙ z)) ∙ sym (joined 0 first then)
+
+pub by-second : (first then : List Rule) (a r : ℕ) → T (positive first) → a ≡ refusal first → a ≡ 0 → r ≡ refusal then → r ≡ refusal (first ++ then)
+by-second first then a r t e z f = f ∙ sym (refusal-after first then (clear first t (sym e ∙ z)))
+
 pub dim-small : (S : Setup) → Limits S → dim S ≤ 16
 dim-small S L = omega (arith, L .secret, L .random)
 
 pub matrix-small : (S : Setup) → Limits S → S .n * dim S ≤ 512
 matrix-small S L = mul-le-mul {n₁ = S .n} {m₁ = dim S} {n₂ = 32} {m₂ = 16} (L .holders .1) (dim-small S L)
+
+pub map-small : (S : Setup) → Limits S → S .l * S .l ≤ 64
+map-small S L = mul-le-mul {n₁ = S .l} {m₁ = S .l} {n₂ = 8} {m₂ = 8} (L .secret .1) (L .secret .1)
 
 -- THE START OF A RECORD: which of the rules of its mark and its length applies
 module _ (mark needed : ℕ) (s : List ℕ) where
@@ -44,6 +57,9 @@ module _ (mark needed : ℕ) (s : List ℕ) where
 
   pub due-whole : 2 ≤ length s → wordAt s 0 ≡ mark → needed ≤ length s → 0 ≡ refusal (due mark needed s)
   due-whole l e m = simp (le-ltb (length s) 2 l, eq-eqb (wordAt s 0) mark e, le-ltb (length s) needed m)
+
+  pub due-length : refusal (due mark needed s) ≡ 0 → needed ≤ length s
+  due-length e = ltb-false (length s) needed (clear (due mark needed s) tt e .1 .1 .0)
 
 -- SU
 -- a number that the mark or the limits give stays; past them the length, the lent matrix and the entries decide
@@ -95,24 +111,40 @@ matrix-room s k e =
     let r = clear (readMatrixRules s k) tt e .1 .1 .1 .1 .1 .1 .1 in
     (size-is k _ (r .1 .0), ltb-false (length s) (setupSize (setupAt s)) (r .0))
 
--- DL
-pub dealing-whole : (S : Setup) (s : List ℕ) → refusal (due markDL (dealingSize S) s) ≡ 0 → dealingSize S ≤ length s
-dealing-whole S s e = ltb-false (length s) (dealingSize S) (clear (due markDL (dealingSize S) s) tt e .1 .1 .0)
-
+-- DL AND DF
 -- a whole record: its entries and its two numbers decide, as they are read with the length d
-pub by-parts : (S : Setup) (s : List ℕ) (d b c r : ℕ) (x : DealingRecord) → refusal (due markDL (dealingSize S) s) ≡ 0 → d ≡ dim S
+pub by-parts : (mark more : ℕ) (S : Setup) (s : List ℕ) (d b c e r : ℕ) (x : DealingRecord) → refusal (due mark (dealingSize S + 2 * more) s) ≡ 0 → d ≡ dim S
     → b ≡ orWhen 0 4 (not (allBelow (S .p) (wordsAt s 3 d))) → c ≡ orWhen b 4 (not (allBelow (S .p) (wordsAt s (3 + d) d)))
-    → x ≡ dealingAt s → r ≡ refusalFrom c (dealingFaults S x) → r ≡ refusal (standingRules dealingLayout S s)
-by-parts S s d b c r x z e i j k l =
-    rw (l, k, j, i, e)
-    (sym (refusal-after (due markDL (dealingSize S) s) (beyondField (S .p) (dealingG S s) ∷ beyondField (S .p) (dealingH S s) ∷ dealingFaults S (dealingAt s))
-    (clear (due markDL (dealingSize S) s) tt z)))
+    → e ≡ orWhen c 4 (not (allBelow (S .p) (wordsAt s (3 + 2 * d) more))) → x ≡ dealingAt s → r ≡ refusalFrom e (dealingFaults S x)
+    → r ≡ refusal (partsRules mark more S s)
+by-parts mark more S s d b c e r x z f i j k l m =
+    let whole = due mark (dealingSize S + 2 * more) s in
+    rw (m, l, k, j, i, f)
+    (sym (refusal-after whole (beyondField (S .p) (dealingG S s) ∷ beyondField (S .p) (dealingH S s) ∷ beyondField (S .p) (wordsAt s (3 + 2 * dim S) more) ∷ dealingFaults S (dealingAt s)) (clear whole tt z)))
+
+-- with no elements behind h these are the rules of DL
+pub none-behind : (S : Setup) (s : List ℕ) → refusal (partsRules markDL 0 S s) ≡ refusal (standingRules dealingLayout S s)
+none-behind S s =
+    let before : List Rule = due markDL (dealingSize S) s ++ beyondField (S .p) (dealingG S s) ∷ beyondField (S .p) (dealingH S s) ∷ [] in
+    let after = dealingFaults S (dealingAt s) in
+    let b = below-words (S .p) s (3 + 2 * dim S) 0 ∙ every-none _ in
+    rw (add-zero (dealingSize S), b)
+    (joined 0 before ((4 when false) ∷ after) ∙ passed-over (refusal before) 4 after ∙ sym (joined 0 before after))
+
+-- a reader that is not refused: all that is lent is as needed, and the record stands there whole
+read-room : {A : Type 0} (L : Layout A) (W : Lawful A L) (S : Setup) (lent : List Lent) (s : List ℕ) → refusal (readRules L S lent s) ≡ 0
+    → InOrder (S .p) lent × (L .size S ≤ length s)
+read-room L W S lent s e =
+    let r = in-order S lent (standingRules L S s) (W .positive-read S (L .at S s)) e in
+    (r .lent, ltb-false (length s) (L .size S) (r .own .1 .1 .0))
 
 pub parts-room : (S : Setup) (s : List ℕ) (j k : ℕ) → refusal (readDealingRules S s j k) ≡ 0
     → (j ≡ dim S) × (k ≡ dim S) × (dealingSize S ≤ length s)
-parts-room S s j k e =
-    let r = in-order S (dealingLent S j k) (standingRules dealingLayout S s) tt e in
-    (r .lent .0, r .lent .1 .0, ltb-false (length s) (dealingSize S) (r .own .1 .1 .0))
+parts-room S s j k e = let r = read-room dealingLayout dealing-lawful S (dealingLent S j k) s e in (r .0 .0, r .0 .1 .0, r .1)
+
+pub mapped-room : (S : Setup) (s : List ℕ) (i j k : ℕ) → refusal (readMappedRules S s i j k) ≡ 0
+    → (i ≡ dim S) × (j ≡ dim S) × (k ≡ S .l * S .l) × (mappedSize S ≤ length s)
+mapped-room S s i j k e = let r = read-room mappedLayout mapped-lawful S (mappedLent S i j k) s e in (r .0 .0, r .0 .1 .0, r .0 .1 .1 .0, r .1)
 
 -- a record without lists: its rules as its reader goes through them
 pub plain-read : {A : Type 0} (L : Layout A) (S : Setup) (s : List ℕ) (x : A) (l a r : ℕ) → x ≡ L .at S s → l ≡ refusal (limits S)

@@ -1,9 +1,9 @@
--- What a layout must obey, what then follows of an accepted writer, and that the layouts of DL, PV, VD and SH obey it.
+-- What a layout must obey, what then follows of an accepted writer, and that the layouts of all records but SU obey it.
 -- Lawful: its rules have numbers above 0; where its lists have the lengths needed, its words have its length and are read as the fields that they are of;
 -- and the lists that are read have the lengths needed, and all the words read are those of the fields
 -- Wrote: what an accepted writer says
 use mathlib.Core.Path.{_≡_, refl, sym, ap, _∙_}
-use mathlib.Core.List.{List, [], _∷_, _++_, append-nil}
+use mathlib.Core.List.{List, [], _∷_, _++_, append-nil, append-assoc}
 use Prim.Native.Nat.{ℕ, suc, _+_, _*_}
 use native.Mathlib.Omega.{arith}
 use lib.Dec.{T}
@@ -15,13 +15,13 @@ use Rattle.scheme.specs.Setup.{Setup, dim, Limits}
 use Rattle.scheme.specs.Calls.{limits, room, sizes, inField}
 use Rattle.scheme.proofs.Calls.{limits-are, size-is, size-clear}
 use Rattle.record_layouts.specs.Words.{bytes}
-use Rattle.record_layouts.proofs.Words.{length-bytes, sets-whole, word-of, words-of, length-words, Shows, shows-append, shows-words}
+use Rattle.record_layouts.proofs.Words.{length-bytes, bytes-append, sets-whole, word-of, words-of, length-words, Shows, shows-append, shows-words}
 use Rattle.record_layouts.specs.declared.DealingRecord.{DealingRecord}
 use Rattle.record_layouts.specs.declared.PairRecord.{PairRecord}
 use Rattle.record_layouts.specs.declared.VerdictRecord.{VerdictRecord}
 use Rattle.record_layouts.specs.declared.ShareRecord.{ShareRecord}
 use Rattle.record_layouts.specs.Records.{Layout, allWords, writeRules, markDL, DealingParts, parts, dealingWords, dealingAt, dealingG, dealingH, dealingLayout}
-use Rattle.record_layouts.specs.Records.{pairWords, pairLayout, verdictWords, verdictLayout, shareWords, shareLayout}
+use Rattle.record_layouts.specs.Records.{markDF, MappedParts, mappedParts, mappedWords, mappedPhi, mappedLayout, pairValues, pairLayoutOf, verdictWords, verdictLayout, shareWords, shareLayout}
 
 pub record Lawful (A : Type 0) (L : Layout A) : Type 0 where
   pub positive-written : (S : Setup) (x : A) (k : ℕ) → T (positive (writeRules L S x k))
@@ -56,18 +56,40 @@ pub filled : {A : Type 0} (L : Layout A) (W : Lawful A L) (S : Setup) (x : A) (o
     → sets out 0 (bytes (allWords L x)) ≡ bytes (allWords L x)
 filled L W S x out e = sets-whole out (bytes (allWords L x)) (length-bytes (allWords L x) ∙ wrote L W S x (length out) e .fills)
 
+-- DL'S FIELDS under a mark
+module _ (mark : ℕ) (x : DealingRecord) (g h rest : List ℕ) where
+  abbrev partsIn : List ℕ
+  partsIn = bytes (mark ∷ x .dealing ∷ x .holder ∷ g ++ h) ++ rest
+
+  numbers-in : dealingAt partsIn ≡ x
+  numbers-in =
+      let w = word-of (mark ∷ x .dealing ∷ x .holder ∷ g ++ h) rest in
+      rw (w 1 (omega arith), w 2 (omega arith))
+
+  g-in : (S : Setup) → length g ≡ dim S → dealingG S partsIn ≡ g
+  g-in S i = words-of (mark ∷ x .dealing ∷ x .holder ∷ []) g h rest 3 (dim S) refl i
+
+  h-in : (S : Setup) → length g ≡ dim S → length h ≡ dim S → dealingH S partsIn ≡ h
+  h-in S i j = rw (append-nil h) at (words-of (mark ∷ x .dealing ∷ x .holder ∷ g) h [] rest (3 + dim S) (dim S) (omega (arith, i)) j)
+
+module _ (S : Setup) (s : List ℕ) where
+  parts-shown : Shows s 3 (dealingG S s ++ dealingH S s)
+  parts-shown =
+      shows-append s 3 (dealingG S s) (dealingH S s) (3 + dim S) (omega (arith, length-words s 3 (dim S))) (shows-words s 3 (dim S)) (shows-words s (3 + dim S) (dim S))
+
+  parts-long : length (dealingG S s ++ dealingH S s) ≡ 2 * dim S
+  parts-long = omega (arith, length-append (dealingG S s) (dealingH S s), length-words s 3 (dim S), length-words s (3 + dim S) (dim S))
+
 -- DL
 pub dealing-at : (x : DealingRecord) (g h rest : List ℕ) → dealingAt (bytes (dealingWords x g h) ++ rest) ≡ x
-dealing-at x g h rest =
-    let w = word-of (dealingWords x g h) rest in
-    rw (w 1 (omega arith), w 2 (omega arith))
+dealing-at x g h rest = numbers-in markDL x g h rest
 
 module _ (S : Setup) (x : DealingRecord) (g h rest : List ℕ) (i : length g ≡ dim S) (j : length h ≡ dim S) where
   pub row-at : dealingG S (bytes (dealingWords x g h) ++ rest) ≡ g
-  row-at = words-of (markDL ∷ x .dealing ∷ x .holder ∷ []) g h rest 3 (dim S) refl i
+  row-at = g-in markDL x g h rest S i
 
   pub column-at : dealingH S (bytes (dealingWords x g h) ++ rest) ≡ h
-  column-at = rw (append-nil h) at (words-of (markDL ∷ x .dealing ∷ x .holder ∷ g) h [] rest (3 + dim S) (dim S) (omega (arith, i)) j)
+  column-at = h-in markDL x g h rest S i j
 
 pub dealing-lawful : Lawful DealingParts dealingLayout
 dealing-lawful =
@@ -83,23 +105,76 @@ dealing-lawful =
           ∙ ap (λ (y : List ℕ). parts (x .numbers) y (dealingH S s)) (row-at S (x .numbers) (x .g) (x .h) rest i j)
           ∙ ap (λ (y : List ℕ). parts (x .numbers) (x .g) y) (column-at S (x .numbers) (x .g) (x .h) rest i j);
       full = λ S s. (size-clear _ (dim S) (length-words s 3 (dim S)), (size-clear _ (dim S) (length-words s (3 + dim S) (dim S)), tt));
+      shows = λ S s. (refl, (refl, parts-shown S s));
+    }
+
+-- DF: DL's fields, then φ
+map-behind : (x : DealingRecord) (g h phi rest : List ℕ)
+    → bytes (mappedWords x g h phi) ++ rest ≡ bytes (markDF ∷ x .dealing ∷ x .holder ∷ g ++ h) ++ (bytes phi ++ rest)
+map-behind x g h phi rest =
+    let first : List ℕ = markDF ∷ x .dealing ∷ x .holder ∷ g ++ h in
+    ap (λ l. l ++ rest) (bytes-append first phi) ∙ append-assoc (bytes first) (bytes phi) rest
+
+pub mapped-at : (x : DealingRecord) (g h phi rest : List ℕ) → dealingAt (bytes (mappedWords x g h phi) ++ rest) ≡ x
+mapped-at x g h phi rest = ap dealingAt (map-behind x g h phi rest) ∙ numbers-in markDF x g h (bytes phi ++ rest)
+
+module _ (S : Setup) (x : DealingRecord) (g h phi rest : List ℕ) (i : length g ≡ dim S) (j : length h ≡ dim S) (k : length phi ≡ S .l * S .l) where
+  pub mapped-row-at : dealingG S (bytes (mappedWords x g h phi) ++ rest) ≡ g
+  mapped-row-at = ap (dealingG S) (map-behind x g h phi rest) ∙ g-in markDF x g h (bytes phi ++ rest) S i
+
+  pub mapped-column-at : dealingH S (bytes (mappedWords x g h phi) ++ rest) ≡ h
+  mapped-column-at = ap (dealingH S) (map-behind x g h phi rest) ∙ h-in markDF x g h (bytes phi ++ rest) S i j
+
+  pub mapped-phi-at : mappedPhi S (bytes (mappedWords x g h phi) ++ rest) ≡ phi
+  mapped-phi-at =
+      rw (append-nil phi) at
+      (words-of (markDF ∷ x .dealing ∷ x .holder ∷ g ++ h) phi [] rest (3 + 2 * dim S) (S .l * S .l) (omega (arith, length-append g h, i, j)) k)
+
+pub mapped-lawful : Lawful MappedParts mappedLayout
+mapped-lawful =
+    record {
+      positive-written = λ S x k. tt;
+      positive-read = λ S x. tt;
+      long = λ S x c.
+          omega (
+            arith,
+            length-append (x .g ++ x .h) (x .phi),
+            length-append (x .g) (x .h),
+            size-is (length (x .g)) (dim S) (c .0),
+            size-is (length (x .h)) (dim S) (c .1 .0),
+            size-is (length (x .phi)) (S .l * S .l) (c .1 .1 .0),
+          );
+      again = λ S x rest c.
+          let i = size-is (length (x .g)) (dim S) (c .0) in
+          let j = size-is (length (x .h)) (dim S) (c .1 .0) in
+          let k = size-is (length (x .phi)) (S .l * S .l) (c .1 .1 .0) in
+          let s : List ℕ = bytes (mappedWords (x .numbers) (x .g) (x .h) (x .phi)) ++ rest in
+          ap (λ (y : DealingRecord). mappedParts y (dealingG S s) (dealingH S s) (mappedPhi S s)) (mapped-at (x .numbers) (x .g) (x .h) (x .phi) rest)
+          ∙ ap (λ (y : List ℕ). mappedParts (x .numbers) y (dealingH S s) (mappedPhi S s)) (mapped-row-at S (x .numbers) (x .g) (x .h) (x .phi) rest i j k)
+          ∙ ap (λ (y : List ℕ). mappedParts (x .numbers) (x .g) y (mappedPhi S s)) (mapped-column-at S (x .numbers) (x .g) (x .h) (x .phi) rest i j k)
+          ∙ ap (λ (y : List ℕ). mappedParts (x .numbers) (x .g) (x .h) y) (mapped-phi-at S (x .numbers) (x .g) (x .h) (x .phi) rest i j k);
+      full = λ S s. (
+        size-clear _ (dim S) (length-words s 3 (dim S)),
+        (size-clear _ (dim S) (length-words s (3 + dim S) (dim S)), (size-clear _ (S .l * S .l) (length-words s (3 + 2 * dim S) (S .l * S .l)), tt)),
+      );
       shows = λ S s. (
         refl,
         (
           refl,
-          shows-append s 3 (dealingG S s) (dealingH S s) (3 + dim S) (omega (arith, length-words s 3 (dim S))) (shows-words s 3 (dim S)) (shows-words s (3 + dim S) (dim S)),
+          shows-append s 3 (dealingG S s ++ dealingH S s) (mappedPhi S s) (3 + 2 * dim S) (omega (arith, parts-long S s)) (parts-shown S s)
+              (shows-words s (3 + 2 * dim S) (S .l * S .l)),
         ),
       );
     }
 
--- PV
-pub pair-lawful : Lawful PairRecord pairLayout
-pair-lawful =
+-- PV AND PF
+pub pair-lawful : (mark : ℕ) → Lawful PairRecord (pairLayoutOf mark)
+pair-lawful mark =
     record {
       positive-written = λ S x k. tt;
       positive-read = λ S x. tt;
       long = λ S x c. refl;
-      again = λ S x rest c. let w = word-of (pairWords x) rest in rw (w 1 (omega arith), w 2 (omega arith), w 3 (omega arith), w 4 (omega arith));
+      again = λ S x rest c. let w = word-of (mark ∷ pairValues x) rest in rw (w 1 (omega arith), w 2 (omega arith), w 3 (omega arith), w 4 (omega arith));
       full = λ S s. tt;
       shows = λ S s. (refl, (refl, (refl, (refl, tt))));
     }

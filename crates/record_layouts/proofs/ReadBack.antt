@@ -19,8 +19,9 @@ use Rattle.record_layouts.proofs.Words.{length-bytes, word-of, words-of
 use Rattle.record_layouts.specs.declared.DealingRecord.{DealingRecord}
 use Rattle.record_layouts.specs.Records.{due, Layout, allWords, writeRules, writeCall, writeLeft, readRules, readCall, markSU, setupWords, setupSize, setupAt, writeSetupRules, readSetupRules, readMatrixRules}
 use Rattle.record_layouts.specs.Records.{DealingParts, parts, dealingWords, dealingFaults, dealingLayout, dealingLent, standingRules, pairValues, pairLayout, verdictValues, verdictLayout, shareValues, shareLayout}
+use Rattle.record_layouts.specs.Records.{MappedParts, mappedParts, mappedWords, mappedLayout, mappedLent, markPV, markPF, mappedPairLayout}
 use Rattle.record_layouts.specs.Sound.{inFile, SetupReads, ReadBack}
-use Rattle.record_layouts.proofs.Layouts.{Lawful, wrote, dealing-lawful, pair-lawful, verdict-lawful, share-lawful}
+use Rattle.record_layouts.proofs.Layouts.{Lawful, wrote, dealing-lawful, mapped-lawful, pair-lawful, verdict-lawful, share-lawful}
 use Rattle.record_layouts.proofs.Calls.{matrix-as-setup}
 
 -- a record's own bytes are due where it stands
@@ -115,6 +116,13 @@ pub dealing-fair : (S : Setup) (x : DealingRecord) (g h rest : List ℕ) → len
     → Clear (beyondField (S .p) g ∷ beyondField (S .p) h ∷ dealingFaults S x) → refusal (standingRules dealingLayout S (bytes (dealingWords x g h) ++ rest)) ≡ 0
 dealing-fair S x g h rest i j c = stands dealingLayout dealing-lawful S (parts x g h) rest (size-clear _ _ i, (size-clear _ _ j, tt)) c
 
+-- DF, as it stands in a file
+pub mapped-fair : (S : Setup) (x : DealingRecord) (g h phi rest : List ℕ) → length g ≡ dim S → length h ≡ dim S → length phi ≡ S .l * S .l
+    → Clear (beyondField (S .p) g ∷ beyondField (S .p) h ∷ beyondField (S .p) phi ∷ dealingFaults S x)
+    → refusal (standingRules mappedLayout S (bytes (mappedWords x g h phi) ++ rest)) ≡ 0
+mapped-fair S x g h phi rest i j k c =
+    stands mappedLayout mapped-lawful S (mappedParts x g h phi) rest (size-clear _ _ i, (size-clear _ _ j, (size-clear _ _ k, tt))) c
+
 pub read-back : ReadBack
 read-back =
     record {
@@ -129,7 +137,16 @@ read-back =
             row = λ a b i j. list-back dealingLayout dealing-lawful S (parts x g h) out before rest e (lent a b) (i, (j, tt)) (λ (y : DealingParts). y .g) a;
             column = λ a b i j. list-back dealingLayout dealing-lawful S (parts x g h) out before rest e (lent a b) (i, (j, tt)) (λ (y : DealingParts). y .h) b;
           };
-      pair = λ S x out before rest e. answer-back pairLayout pair-lawful S x out before rest e [] tt pairValues;
+      mapped = λ S x g h phi out before rest e.
+          let lent : List ℕ → List ℕ → List ℕ → List Lent = λ a b c. mappedLent S (length a) (length b) (length c) in
+          record {
+            numbers = λ a b c i j k. answer-back mappedLayout mapped-lawful S (mappedParts x g h phi) out before rest e (lent a b c) (i, (j, (k, tt))) (λ (y : MappedParts). y .numbers .dealing ∷ y .numbers .holder ∷ []);
+            row = λ a b c i j k. list-back mappedLayout mapped-lawful S (mappedParts x g h phi) out before rest e (lent a b c) (i, (j, (k, tt))) (λ (y : MappedParts). y .g) a;
+            column = λ a b c i j k. list-back mappedLayout mapped-lawful S (mappedParts x g h phi) out before rest e (lent a b c) (i, (j, (k, tt))) (λ (y : MappedParts). y .h) b;
+            map = λ a b c i j k. list-back mappedLayout mapped-lawful S (mappedParts x g h phi) out before rest e (lent a b c) (i, (j, (k, tt))) (λ (y : MappedParts). y .phi) c;
+          };
+      pair = λ S x out before rest e. answer-back pairLayout (pair-lawful markPV) S x out before rest e [] tt pairValues;
+      mapped-pair = λ S x out before rest e. answer-back mappedPairLayout (pair-lawful markPF) S x out before rest e [] tt pairValues;
       verdict = λ S x out before rest e. answer-back verdictLayout verdict-lawful S x out before rest e [] tt verdictValues;
       share = λ S x out before rest e. answer-back shareLayout share-lawful S x out before rest e [] tt shareValues;
     }

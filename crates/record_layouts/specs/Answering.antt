@@ -2,7 +2,7 @@
 -- proofs/Answering.antt proves it.
 -- RecordsMarked: every call's answer says that the call answered exactly where the refusal's number is 0
 -- WritersRising: the numbers of every writer's table rise, so that the first that applies is the lowest
--- DealingInOrder .. ShareInOrder: fields that break nothing
+-- DealingInOrder .. ShareInOrder: fields that break nothing; DF has DL's, with φ beside them, and PF has PV's
 -- RecordsAnswering: a writer whose inputs break nothing answers; so does a reader on a part of a file that begins with the bytes of such a record,
 -- whatever follows them
 use mathlib.Core.Path.{_≡_}
@@ -19,6 +19,7 @@ use Rattle.record_layouts.specs.declared.PairRecord.{PairRecord}
 use Rattle.record_layouts.specs.declared.VerdictRecord.{VerdictRecord}
 use Rattle.record_layouts.specs.declared.ShareRecord.{ShareRecord}
 use Rattle.record_layouts.specs.Records.{setupWords, dealingWords, pairWords, verdictWords, shareWords, setupSize, dealingSize, pairSize, verdictSize, shareSize}
+use Rattle.record_layouts.specs.Records.{MappedParts, mappedWords, mappedSize, mappedLayout, writeMappedCall, readMappedCall, mappedPairWords, mappedPairLayout, writeMappedPairCall, readMappedPairCall}
 use Rattle.record_layouts.specs.Records.{writeRules, writeSetupRules, DealingParts, dealingLayout, pairLayout, verdictLayout, shareLayout}
 use Rattle.record_layouts.specs.Records.{writeSetupCall, readSetupCall, readMatrixCall, writeDealingCall, readDealingCall, writePairCall, readPairCall, writeVerdictCall, readVerdictCall, writeShareCall, readShareCall}
 
@@ -29,8 +30,12 @@ pub record RecordsMarked : Type 0 where
   pub read-matrix : (s m : List ℕ) → Marked (readMatrixCall s m)
   pub write-dealing : (S : Setup) (x : DealingRecord) (g h out : List ℕ) → Marked (writeDealingCall S x g h out)
   pub read-dealing : (S : Setup) (s g h : List ℕ) → Marked (readDealingCall S s g h)
+  pub write-mapped : (S : Setup) (x : DealingRecord) (g h phi out : List ℕ) → Marked (writeMappedCall S x g h phi out)
+  pub read-mapped : (S : Setup) (s g h phi : List ℕ) → Marked (readMappedCall S s g h phi)
   pub write-pair : (S : Setup) (x : PairRecord) (out : List ℕ) → Marked (writePairCall S x out)
   pub read-pair : (S : Setup) (s : List ℕ) → Marked (readPairCall S s)
+  pub write-mapped-pair : (S : Setup) (x : PairRecord) (out : List ℕ) → Marked (writeMappedPairCall S x out)
+  pub read-mapped-pair : (S : Setup) (s : List ℕ) → Marked (readMappedPairCall S s)
   pub write-verdict : (S : Setup) (x : VerdictRecord) (out : List ℕ) → Marked (writeVerdictCall S x out)
   pub read-verdict : (S : Setup) (s : List ℕ) → Marked (readVerdictCall S s)
   pub write-share : (S : Setup) (x : ShareRecord) (out : List ℕ) → Marked (writeShareCall S x out)
@@ -40,7 +45,9 @@ pub record RecordsMarked : Type 0 where
 pub record WritersRising : Type 0 where
   pub setup : (S : Setup) (k : ℕ) → Rising (writeSetupRules S k)
   pub dealing : (S : Setup) (x : DealingParts) (k : ℕ) → Rising (writeRules dealingLayout S x k)
+  pub mapped : (S : Setup) (x : MappedParts) (k : ℕ) → Rising (writeRules mappedLayout S x k)
   pub pair : (S : Setup) (x : PairRecord) (k : ℕ) → Rising (writeRules pairLayout S x k)
+  pub mapped-pair : (S : Setup) (x : PairRecord) (k : ℕ) → Rising (writeRules mappedPairLayout S x k)
   pub verdict : (S : Setup) (x : VerdictRecord) (k : ℕ) → Rising (writeRules verdictLayout S x k)
   pub share : (S : Setup) (x : ShareRecord) (k : ℕ) → Rising (writeRules shareLayout S x k)
 
@@ -79,8 +86,16 @@ pub record RecordsAnswering : Type 0 where
       → Answers (writeDealingCall S x g h out)
   pub read-dealing : (S : Setup) (x : DealingRecord) (g h rest a b : List ℕ) → Limits S → DealingInOrder S x g h → length a ≡ dim S → length b ≡ dim S
       → Answers (readDealingCall S (bytes (dealingWords x g h) ++ rest) a b)
+  pub write-mapped : (S : Setup) (x : DealingRecord) (g h phi out : List ℕ) → Limits S → DealingInOrder S x g h → Vec (S .p) (S .l * S .l) phi
+      → length out ≡ mappedSize S → Answers (writeMappedCall S x g h phi out)
+  pub read-mapped : (S : Setup) (x : DealingRecord) (g h phi rest a b c : List ℕ) → Limits S → DealingInOrder S x g h → Vec (S .p) (S .l * S .l) phi
+      → length a ≡ dim S → length b ≡ dim S → length c ≡ S .l * S .l → Answers (readMappedCall S (bytes (mappedWords x g h phi) ++ rest) a b c)
   pub write-pair : (S : Setup) (x : PairRecord) (out : List ℕ) → Limits S → PairInOrder S x → length out ≡ pairSize → Answers (writePairCall S x out)
   pub read-pair : (S : Setup) (x : PairRecord) (rest : List ℕ) → Limits S → PairInOrder S x → Answers (readPairCall S (bytes (pairWords x) ++ rest))
+  pub write-mapped-pair : (S : Setup) (x : PairRecord) (out : List ℕ) → Limits S → PairInOrder S x → length out ≡ pairSize
+      → Answers (writeMappedPairCall S x out)
+  pub read-mapped-pair : (S : Setup) (x : PairRecord) (rest : List ℕ) → Limits S → PairInOrder S x
+      → Answers (readMappedPairCall S (bytes (mappedPairWords x) ++ rest))
   pub write-verdict : (S : Setup) (x : VerdictRecord) (out : List ℕ) → Limits S → VerdictInOrder S x → length out ≡ verdictSize
       → Answers (writeVerdictCall S x out)
   pub read-verdict : (S : Setup) (x : VerdictRecord) (rest : List ℕ) → Limits S → VerdictInOrder S x

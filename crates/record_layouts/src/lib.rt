@@ -9,9 +9,12 @@ ghost use lib.Seq.{sets};
 ghost use Rattle.base.specs.Rules.{orWhen, refusalFrom, refusal};
 ghost use Rattle.base.specs.Matrix.{allBelow};
 ghost use Rattle.scheme.specs.Setup.{setupOf};
+ghost use Rattle.scheme.specs.Calls.{table};
 ghost use Rattle.record_layouts.specs.Words.{bytes, wordAt, wordsAt};
 ghost use Rattle.record_layouts.specs.Records.{due, paramsAt, dealingAt, pairAt, verdictAt, shareAt, dealingFaults, pairFaults, verdictFaults, shareFaults};
-ghost use Rattle.record_layouts.specs.Records.{standingRules, readSetupRules, readMatrixRules, dealingLayout, readDealingRules};
+ghost use Rattle.record_layouts.specs.Records.{standingRules, readSetupRules, readMatrixRules, dealingLayout, dealingLent, readDealingRules};
+ghost use Rattle.record_layouts.specs.Records.{mappedLayout, readMappedRules};
+ghost use Rattle.record_layouts.specs.Inner.{partsRules};
 use scheme::Params;
 
 // MARKS AND SIZES
@@ -43,13 +46,13 @@ pub const VERDICT_SIZE: usize = 8;
 pub const SHARE_SIZE: usize = 10;
 
 // THE RECORDS
-// DL without g and h.
+// DL without g and h, and DF without g, h and φ.
 pub struct DealingRecord {
     pub dealing: u16,
     pub holder: u16,
 }
 
-// PV.
+// PV and PF.
 pub struct PairRecord {
     pub dealing: u16,
     pub sender: u16,
@@ -271,7 +274,7 @@ pub fn share_faults(standing: u16, s: Params, x: ShareRecord) -> u16
     }
 }
 
-// A RECORD AT THE START OF A PART OF A FILE: its mark and its length, and for SU and DL all that refuses it.
+// A RECORD AT THE START OF A PART OF A FILE: its mark and its length, and for SU, DL and DF all that refuses it.
 pub fn or_due(standing: u16, s: &[u8], mark: u16, needed: usize) -> u16
     ensures { λ r. ⌜ r ≡ refusalFrom standing (due mark needed (now (s .entry))) ⌝ }
 {
@@ -318,30 +321,72 @@ pub fn setup_refusal(s: &[u8]) -> u16
     matrix_refusal(s, len)
 }
 
-// DL, as it stands in a file.
-pub fn dealing_fault(s: Params, part: &[u8]) -> u16
-    ensures { λ r. ⌜ r ≡ refusal (standingRules dealingLayout (setupOf s []) (now (part .entry))) ⌝ }
+// How many entries φ has: ℓ * ℓ.
+pub fn map_len(s: Params) -> usize
+    ensures { λ r. ⌜ (r ≡ s .l * s .l) × (r ≤ 4294836225) ⌝ }
+{
+    (s.l as usize) * (s.l as usize)
+}
+
+// DL's fields under a mark, and `more` elements behind them, as they stand in a file.
+fn parts_fault(s: Params, part: &[u8], mark: u16, more: usize) -> u16
+    requires { ⌜ more ≤ 4294836225 ⌝ }
+    ensures { λ r. ⌜ r ≡ refusal (partsRules mark more (setupOf s []) (now (part .entry))) ⌝ }
 {
     let d = s.dim();
-    let a = or_due(0, part, MARK_DL, DEALING_HEAD + 4 * d);
+    let a = or_due(0, part, mark, DEALING_HEAD + 4 * d + 2 * more);
     if a != 0 {
         return a;
     }
     let b = or_words(0, part, 3, d, s.p);
     let c = or_words(b, part, 3 + d, d, s.p);
-    dealing_faults(c, s, dealing_at(part))
+    let e = or_words(c, part, 3 + 2 * d, more, s.p);
+    dealing_faults(e, s, dealing_at(part))
+}
+
+// DL, as it stands in a file.
+pub fn dealing_fault(s: Params, part: &[u8]) -> u16
+    ensures { λ r. ⌜ r ≡ refusal (standingRules dealingLayout (setupOf s []) (now (part .entry))) ⌝ }
+{
+    parts_fault(s, part, MARK_DL, 0)
+}
+
+// DF, as it stands in a file.
+pub fn mapped_fault(s: Params, part: &[u8]) -> u16
+    ensures { λ r. ⌜ r ≡ refusal (standingRules mappedLayout (setupOf s []) (now (part .entry))) ⌝ }
+{
+    parts_fault(s, part, MARK_DF, map_len(s))
+}
+
+// The limits, and the buffers lent for g and h.
+fn parts_lent(s: Params, g_room: usize, h_room: usize) -> u16
+    ensures { λ r. ⌜ r ≡ refusal (table (setupOf s []) (dealingLent (setupOf s []) «g_room» «h_room») []) ⌝ }
+{
+    let d = s.dim();
+    let a = scheme::limits_refusal(s);
+    let b = scheme::or_size(a, g_room, d);
+    scheme::or_size(b, h_room, d)
 }
 
 // DL, its g and h read into buffers of so many entries.
 pub fn dealing_refusal(s: Params, part: &[u8], g_room: usize, h_room: usize) -> u16
     ensures { λ r. ⌜ r ≡ refusal (readDealingRules (setupOf s []) (now (part .entry)) «g_room» «h_room») ⌝ }
 {
-    let d = s.dim();
-    let a = scheme::limits_refusal(s);
-    let b = scheme::or_size(a, g_room, d);
-    let c = scheme::or_size(b, h_room, d);
-    if c != 0 {
-        return c;
+    let a = parts_lent(s, g_room, h_room);
+    if a != 0 {
+        return a;
     }
     dealing_fault(s, part)
+}
+
+// DF, its g, h and φ read into buffers of so many entries.
+pub fn mapped_refusal(s: Params, part: &[u8], g_room: usize, h_room: usize, phi_room: usize) -> u16
+    ensures { λ r. ⌜ r ≡ refusal (readMappedRules (setupOf s []) (now (part .entry)) «g_room» «h_room» «phi_room») ⌝ }
+{
+    let a = parts_lent(s, g_room, h_room);
+    let b = scheme::or_size(a, phi_room, map_len(s));
+    if b != 0 {
+        return b;
+    }
+    mapped_fault(s, part)
 }

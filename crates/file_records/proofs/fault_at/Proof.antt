@@ -1,5 +1,6 @@
 -- A record that is there is judged where it starts.
 use mathlib.Core.Path.{ap, _∙_}
+use native.Mathlib.Omega.{arith}
 use Rattle.file_records.specs.Received.{recordFault}
 use Rattle.file_records.proofs.Reading.{part-is, record-missing, none-due, record-there}
 use borrow.Author.Needs.{needs}
@@ -9,14 +10,23 @@ use Rattle.file_records.proofs.fault_at.Tie as tie
 place-requires : tie.Need-place-requires
 place-requires c κs = search needs
 
-mul-if2 : tie.Need-mul-if2
-mul-if2 c = search needs
+pair-records-requires : tie.Need-pair-records-requires
+pair-records-requires c κs = search needs
+
+add-if2 : tie.Need-add-if2
+add-if2 c = search needs
 
 returns : tie.Need-returns
-returns c = let end = c .before .before in record-missing _ _ _ _ (end .before .place .ensures) (end .if1 .taken) (c .if2 .taken)
+returns c =
+    let count = c .before .before in
+    let end = count .before in
+    record-missing _ _ _ _ (end .before .place .ensures) (end .if1 .taken) (omega (arith, c .if2 .taken, count .pair-records .ensures .0))
 
 returns-2 : tie.Need-returns-2
-returns-2 c = let end = c .before .before in none-due _ _ _ _ (end .before .place .ensures) (end .if1 .taken) (c .if2 .left)
+returns-2 c =
+    let count = c .before .before in
+    let end = count .before in
+    none-due _ _ _ _ (end .before .place .ensures) (end .if1 .taken) (omega (arith, c .if2 .left, count .pair-records .ensures .0))
 
 sub-record-fault : tie.Need-sub-record-fault
 sub-record-fault c = search needs
@@ -42,7 +52,8 @@ fault-at-spec =
     tie.close
     (tie.spec
     place-requires
-    mul-if2
+    pair-records-requires
+    add-if2
     returns
     returns-2
     sub-record-fault

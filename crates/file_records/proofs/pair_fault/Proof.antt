@@ -1,5 +1,6 @@
 -- The rules of the table, in its order.
 use borrow.Author.Tests.{lt-ltb, le-ltb, lt-leb, le-leb, eq-eqb, ne-eqb}
+use borrow.Author.Needs.{needs}
 use Rattle.file_records.specs.Received.{pairFault}
 use Rattle.file_records.proofs.Reading.{past, just}
 use Rattle.file_records.proofs.pair_fault.Statement.{statement}
@@ -38,6 +39,9 @@ returns-5 c =
     let value = sender .before .before in
     let long = value .before .before .before in
     simp (le-ltb _ _ (long .if1 .left), lt-leb _ _ (value .if2 .left), lt-leb _ _ (sender .if3 .left), eq-eqb _ _ (receiver .if4 .left), ne-eqb _ _ (c .if5 .taken))
+
+add-number : tie.Need-add-number
+add-number c = search needs
 
 returns-6 : tie.Need-returns-6
 unfolding pairFault
@@ -80,6 +84,7 @@ pair-fault-spec =
     returns-3
     returns-4
     returns-5
+    add-number
     returns-6
     returns-7
     returns-8)

@@ -1,5 +1,5 @@
 -- The first faulty record from the one reached on is the first of all.
-use Prim.Native.Nat.{_-_, _≤_, _*_}
+use Prim.Native.Nat.{_+_, _-_, _≤_}
 use mathlib.Core.Path.{_≡_, refl, sym, ap, _∙_}
 use mathlib.Core.Bool.{not}
 use native.Mathlib.Nat.{sub-zero}
@@ -19,12 +19,15 @@ Inv-loop t h count k₀ k = (k ≤ count) × (firstFrom (λ j. not (eqb (faultAt
 abbrev μ-loop : tie.MeasureT-loop
 μ-loop t h count k₀ k = count - k
 
-mul-count : tie.Need-mul-count Inv-loop μ-loop
-mul-count c = search needs
+pair-records-requires : tie.Need-pair-records-requires Inv-loop μ-loop
+pair-records-requires c κs = search needs
+
+add-count : tie.Need-add-count Inv-loop μ-loop
+add-count c = search needs
 
 loop-holds : tie.Need-loop-holds Inv-loop μ-loop
 unfolding reached first
-loop-holds c = (omega arith, rw sub-zero refl)
+loop-holds c = let e = c .before .pair-records .ensures .0 in (omega arith, rw (sub-zero, e) refl)
 
 fault-at-requires : tie.Need-fault-at-requires Inv-loop μ-loop
 fault-at-requires c κs = search needs
@@ -50,7 +53,8 @@ loop-again c =
 returns-2 : tie.Need-returns-2 Inv-loop μ-loop
 returns-2 c =
     let l = c .before .loop in
-    let e : l .k ≡ 2 * c .before .before .before .before .args .h .n = omega arith in
+    let count = c .before .before .before in
+    let e : l .k ≡ count .pair-records .result + count .before .before .args .h .n = omega arith in
     sym (first-end _ _ _ (c .loop-test .left) ∙ e) ∙ l .inv .1
 
 pub reached-spec : {M : Type 1} → statement M
@@ -59,7 +63,8 @@ reached-spec =
     (tie.spec
     Inv-loop
     μ-loop
-    mul-count
+    pair-records-requires
+    add-count
     loop-holds
     fault-at-requires
     returns

@@ -26,29 +26,51 @@ returns-2 c =
     let long = mark .before in
     simp (le-ltb _ _ (long .if1 .left), ← long .before .word .ensures, eq-eqb _ _ (mark .if2 .taken), ← pair .pair-at .ensures) (c .pair-fault .ensures)
 
+pair-at-requires-2 : tie.Need-pair-at-requires-2
+pair-at-requires-2 c κs = search needs
+
+pair-fault-requires-2 : tie.Need-pair-fault-requires-2
+pair-fault-requires-2 c κs = search needs
+
+returns-3 : tie.Need-returns-3
+unfolding recordFault
+returns-3 c =
+    let pair = c .before in
+    let mapped = pair .before in
+    let mark = mapped .before in
+    let long = mark .before .before in
+    simp (le-ltb _ _ (long .if1 .left), ← long .before .word .ensures, ne-eqb _ _ (mark .before .if2 .left), eq-eqb _ _ (mark .if3 .taken), mapped .if4 .taken, ← pair .pair-at2 .ensures) (c .pair-fault2 .ensures)
+
+returns-4 : tie.Need-returns-4
+unfolding recordFault
+returns-4 c =
+    let mark = c .before in
+    let long = mark .before .before in
+    simp (le-ltb _ _ (long .if1 .left), ← long .before .word .ensures, ne-eqb _ _ (mark .before .if2 .left), eq-eqb _ _ (mark .if3 .taken), c .if4 .left)
+
 verdict-at-requires : tie.Need-verdict-at-requires
 verdict-at-requires c κs = search needs
 
 verdict-fault-requires : tie.Need-verdict-fault-requires
 verdict-fault-requires c κs = search needs
 
-returns-3 : tie.Need-returns-3
+returns-5 : tie.Need-returns-5
 unfolding recordFault
-returns-3 c =
+returns-5 c =
     let verdict = c .before in
     let mark = verdict .before in
-    let long = mark .before .before in
-    simp (le-ltb _ _ (long .if1 .left), ← long .before .word .ensures, ne-eqb _ _ (mark .before .if2 .left), eq-eqb _ _ (mark .if3 .taken), ← verdict .verdict-at .ensures) (c .verdict-fault .ensures)
+    let long = mark .before .before .before in
+    simp (le-ltb _ _ (long .if1 .left), ← long .before .word .ensures, ne-eqb _ _ (mark .before .before .if2 .left), ne-eqb _ _ (mark .before .if3 .left), eq-eqb _ _ (mark .if5 .taken), ← verdict .verdict-at .ensures) (c .verdict-fault .ensures)
 
 mark-fault-requires : tie.Need-mark-fault-requires
 mark-fault-requires c κs = search needs
 
-returns-4 : tie.Need-returns-4
+returns-6 : tie.Need-returns-6
 unfolding recordFault
-returns-4 c =
-    let neither = c .before in
-    let long = neither .before .before in
-    simp (le-ltb _ _ (long .if1 .left), ← long .before .word .ensures, ne-eqb _ _ (neither .before .if2 .left), ne-eqb _ _ (neither .if3 .left)) (c .mark-fault .ensures)
+returns-6 c =
+    let none = c .before in
+    let long = none .before .before .before in
+    simp (le-ltb _ _ (long .if1 .left), ← long .before .word .ensures, ne-eqb _ _ (none .before .before .if2 .left), ne-eqb _ _ (none .before .if3 .left), ne-eqb _ _ (none .if5 .left)) (c .mark-fault .ensures)
 
 pub record-fault-spec : {M : Type 1} → statement M
 record-fault-spec =
@@ -59,8 +81,12 @@ record-fault-spec =
     pair-at-requires
     pair-fault-requires
     returns-2
+    pair-at-requires-2
+    pair-fault-requires-2
+    returns-3
+    returns-4
     verdict-at-requires
     verdict-fault-requires
-    returns-3
+    returns-5
     mark-fault-requires
-    returns-4)
+    returns-6)

@@ -6,26 +6,14 @@ use Rattle.judging.proofs.judge_refusal.Tie as tie
 limits-and-matrix-requires : tie.Need-limits-and-matrix-requires
 limits-and-matrix-requires c κs = search needs
 
-dim-requires : tie.Need-dim-requires
-dim-requires c κs = search needs
-
-or-size-requires : tie.Need-or-size-requires
-or-size-requires c κs = search needs
-
-cast-or-size : tie.Need-cast-or-size
-cast-or-size c = search needs
-
-or-size-requires-2 : tie.Need-or-size-requires-2
-or-size-requires-2 c κs = search needs
+or-received-sizes-requires : tie.Need-or-received-sizes-requires
+or-received-sizes-requires c κs = search needs
 
 or-elements-requires : tie.Need-or-elements-requires
 or-elements-requires c κs = search needs
 
-or-elements-requires-2 : tie.Need-or-elements-requires-2
-or-elements-requires-2 c κs = search needs
-
-or-elements-requires-3 : tie.Need-or-elements-requires-3
-or-elements-requires-3 c κs = search needs
+or-received-elements-requires : tie.Need-or-received-elements-requires
+or-received-elements-requires c κs = search needs
 
 returns : tie.Need-returns
 returns c = cc
@@ -35,11 +23,7 @@ judge-refusal-spec =
     tie.close
     (tie.spec
     limits-and-matrix-requires
-    dim-requires
-    or-size-requires
-    cast-or-size
-    or-size-requires-2
+    or-received-sizes-requires
     or-elements-requires
-    or-elements-requires-2
-    or-elements-requires-3
+    or-received-elements-requires
     returns)

@@ -8,7 +8,7 @@ use lib.ListN.{length}
 use Rattle.base.specs.Rules.{refusal}
 use Rattle.base.proofs.Rules.{declined, unchanged, accepted, written}
 use Rattle.scheme.specs.Setup.{setupOf}
-use Rattle.record_layouts.specs.Records.{writeRules, pairLayout}
+use Rattle.record_layouts.specs.Records.{writeRules, markPV, pairLayout}
 use Rattle.record_layouts.proofs.Layouts.{wrote, filled, pair-lawful}
 use Rattle.record_writing.proofs.write_pair_value.Statement.{statement}
 use Rattle.record_writing.proofs.write_pair_value.Tie as tie
@@ -39,7 +39,7 @@ slice-aggregate-put-words c = search needs
 put-words-requires : tie.Need-put-words-requires
 put-words-requires c κs =
     let x = c .before .before .before .before .before .before .before .args in
-    omega (arith, wrote pairLayout pair-lawful (setupOf (x .s) []) (x .x) (length (x .out .now)) (none (c .before .before)) .fills)
+    omega (arith, wrote pairLayout (pair-lawful markPV) (setupOf (x .s) []) (x .x) (length (x .out .now)) (none (c .before .before)) .fills)
 
 same-length : tie.Need-same-length
 same-length c = search needs
@@ -49,7 +49,7 @@ returns-2 c =
     let w = c .before .before .before .before .before in
     let x = w .before .before .before .before .before .args in
     let z = none w in
-    (accepted _ _ z, written _ _ _ _ z (c .before .before .put-words .ensures ∙ filled pairLayout pair-lawful (setupOf (x .s) []) (x .x) (x .out .now) z))
+    (accepted _ _ z, written _ _ _ _ z (c .before .before .put-words .ensures ∙ filled pairLayout (pair-lawful markPV) (setupOf (x .s) []) (x .x) (x .out .now) z))
 
 pub write-pair-value-spec : {M : Type 1} → statement M
 write-pair-value-spec =
