@@ -20,7 +20,7 @@ use Rattle.record_layouts.specs.Words.{wordAt, wordsAt}
 use Rattle.record_layouts.proofs.Words.{length-words, below-words, every-none}
 use Rattle.record_layouts.specs.Records.{due, Layout, markSU, setupSize, setupAt, dueSetup, readSetupRules, readMatrixRules, paramsAt, standingRules, readRules}
 use Rattle.record_layouts.specs.Records.{markDL, dealingSize, dealingAt, dealingG, dealingH, dealingFaults, dealingLayout, dealingLent, readDealingRules, mappedSize, mappedLayout, mappedLent, readMappedRules}
-use Rattle.record_layouts.specs.Inner.{partsRules}
+use Rattle.record_layouts.specs.Inner.{listRules, partsRules}
 use Rattle.record_layouts.proofs.Layouts.{Lawful, dealing-lawful, mapped-lawful}
 
 -- a rule that does not hold leaves what stands
@@ -112,15 +112,15 @@ matrix-room s k e =
     (size-is k _ (r .1 .0), ltb-false (length s) (setupSize (setupAt s)) (r .0))
 
 -- DL AND DF
--- a whole record: its entries and its two numbers decide, as they are read with the length d
-pub by-parts : (mark more : ℕ) (S : Setup) (s : List ℕ) (d b c e r : ℕ) (x : DealingRecord) → refusal (due mark (dealingSize S + 2 * more) s) ≡ 0 → d ≡ dim S
+-- a whole record: its entries decide, as they are read with the length d
+pub by-lists : (mark more : ℕ) (S : Setup) (s : List ℕ) (d b c e : ℕ) → refusal (due mark (dealingSize S + 2 * more) s) ≡ 0 → d ≡ dim S
     → b ≡ orWhen 0 4 (not (allBelow (S .p) (wordsAt s 3 d))) → c ≡ orWhen b 4 (not (allBelow (S .p) (wordsAt s (3 + d) d)))
-    → e ≡ orWhen c 4 (not (allBelow (S .p) (wordsAt s (3 + 2 * d) more))) → x ≡ dealingAt s → r ≡ refusalFrom e (dealingFaults S x)
-    → r ≡ refusal (partsRules mark more S s)
-by-parts mark more S s d b c e r x z f i j k l m =
+    → e ≡ orWhen c 4 (not (allBelow (S .p) (wordsAt s (3 + 2 * d) more)))
+    → e ≡ refusal (listRules mark more S s)
+by-lists mark more S s d b c e z f i j k =
     let whole = due mark (dealingSize S + 2 * more) s in
-    rw (m, l, k, j, i, f)
-    (sym (refusal-after whole (beyondField (S .p) (dealingG S s) ∷ beyondField (S .p) (dealingH S s) ∷ beyondField (S .p) (wordsAt s (3 + 2 * dim S) more) ∷ dealingFaults S (dealingAt s)) (clear whole tt z)))
+    rw (k, j, i, f)
+    (sym (refusal-after whole (beyondField (S .p) (dealingG S s) ∷ beyondField (S .p) (dealingH S s) ∷ beyondField (S .p) (wordsAt s (3 + 2 * dim S) more) ∷ []) (clear whole tt z)))
 
 -- with no elements behind h these are the rules of DL
 pub none-behind : (S : Setup) (s : List ℕ) → refusal (partsRules markDL 0 S s) ≡ refusal (standingRules dealingLayout S s)

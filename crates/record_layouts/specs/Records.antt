@@ -6,7 +6,7 @@
 -- Layout: a record's mark, its length, its words, its fields as they are read, and what is faulty in them
 -- allWords: a record as one list of words
 -- writeRules, writeCall, writeLeft: the table, the answer and the buffer of the call that writes a record
--- standingRules: the rules of a record as it stands in a file; readRules, readCall: the table and the answer of the call that reads it
+-- listsRules, standingRules: the rules of a record as it stands in a file, up to its lists and all of them; readRules, readCall: the table and the answer of the call that reads it
 -- markSU .. markPF: the marks, low byte first
 -- xWords, xSize, xAt, xFaults, xLayout, xValues: of record x its words, its length in bytes, its fields as they stand at the start of a part of a file
 -- (what follows the record is not looked at), the refusals that they give, its layout, and its fields as the values of an answer
@@ -74,7 +74,10 @@ writeCall L S x out = answerBy (refusal (writeRules L S x (length out))) (given 
 abbrev pub writeLeft : {A : Type 0} → Layout A → Setup → A → List ℕ → List ℕ
 writeLeft L S x out = leftBy (refusal (writeRules L S x (length out))) (bytes (allWords L x)) out
 
--- the record that stands at the start of the part s of a file
+-- the record that stands at the start of the part s of a file: up to its lists, and whole
+abbrev pub listsRules : {A : Type 0} → Layout A → Setup → List ℕ → List Rule
+listsRules L S s = due (L .mark) (L .size S) s ++ inField (S .p) (L .lists S (L .at S s))
+
 abbrev pub standingRules : {A : Type 0} → Layout A → Setup → List ℕ → List Rule
 standingRules L S s = due (L .mark) (L .size S) s ++ (inField (S .p) (L .lists S (L .at S s)) ++ L .faults S (L .at S s))
 

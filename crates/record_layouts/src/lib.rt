@@ -12,9 +12,9 @@ ghost use Rattle.scheme.specs.Setup.{setupOf};
 ghost use Rattle.scheme.specs.Calls.{table};
 ghost use Rattle.record_layouts.specs.Words.{bytes, wordAt, wordsAt};
 ghost use Rattle.record_layouts.specs.Records.{due, paramsAt, dealingAt, pairAt, verdictAt, shareAt, dealingFaults, pairFaults, verdictFaults, shareFaults};
-ghost use Rattle.record_layouts.specs.Records.{standingRules, readSetupRules, readMatrixRules, dealingLayout, dealingLent, readDealingRules};
+ghost use Rattle.record_layouts.specs.Records.{listsRules, standingRules, readSetupRules, readMatrixRules, dealingLayout, dealingLent, readDealingRules};
 ghost use Rattle.record_layouts.specs.Records.{mappedLayout, readMappedRules};
-ghost use Rattle.record_layouts.specs.Inner.{partsRules};
+ghost use Rattle.record_layouts.specs.Inner.{listRules, partsRules};
 use scheme::Params;
 
 // MARKS AND SIZES
@@ -328,10 +328,10 @@ pub fn map_len(s: Params) -> usize
     (s.l as usize) * (s.l as usize)
 }
 
-// DL's fields under a mark, and `more` elements behind them, as they stand in a file.
-fn parts_fault(s: Params, part: &[u8], mark: u16, more: usize) -> u16
+// DL's lists under a mark, and `more` elements behind them, as they stand in a file.
+fn lists_fault(s: Params, part: &[u8], mark: u16, more: usize) -> u16
     requires { ⌜ more ≤ 4294836225 ⌝ }
-    ensures { λ r. ⌜ r ≡ refusal (partsRules mark more (setupOf s []) (now (part .entry))) ⌝ }
+    ensures { λ r. ⌜ r ≡ refusal (listRules mark more (setupOf s []) (now (part .entry))) ⌝ }
 {
     let d = s.dim();
     let a = or_due(0, part, mark, DEALING_HEAD + 4 * d + 2 * more);
@@ -340,8 +340,16 @@ fn parts_fault(s: Params, part: &[u8], mark: u16, more: usize) -> u16
     }
     let b = or_words(0, part, 3, d, s.p);
     let c = or_words(b, part, 3 + d, d, s.p);
-    let e = or_words(c, part, 3 + 2 * d, more, s.p);
-    dealing_faults(e, s, dealing_at(part))
+    or_words(c, part, 3 + 2 * d, more, s.p)
+}
+
+// And then its two numbers.
+fn parts_fault(s: Params, part: &[u8], mark: u16, more: usize) -> u16
+    requires { ⌜ more ≤ 4294836225 ⌝ }
+    ensures { λ r. ⌜ r ≡ refusal (partsRules mark more (setupOf s []) (now (part .entry))) ⌝ }
+{
+    let a = lists_fault(s, part, mark, more);
+    dealing_faults(a, s, dealing_at(part))
 }
 
 // DL, as it stands in a file.
@@ -356,6 +364,13 @@ pub fn mapped_fault(s: Params, part: &[u8]) -> u16
     ensures { λ r. ⌜ r ≡ refusal (standingRules mappedLayout (setupOf s []) (now (part .entry))) ⌝ }
 {
     parts_fault(s, part, MARK_DF, map_len(s))
+}
+
+// DF up to its lists, for a file that holds its two numbers against DL's.
+pub fn mapped_lists_fault(s: Params, part: &[u8]) -> u16
+    ensures { λ r. ⌜ r ≡ refusal (listsRules mappedLayout (setupOf s []) (now (part .entry))) ⌝ }
+{
+    lists_fault(s, part, MARK_DF, map_len(s))
 }
 
 // The limits, and the buffers lent for g and h.
