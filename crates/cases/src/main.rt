@@ -1,5 +1,5 @@
 // Stored cases from standard input, each a call with all that it is lent, and for each what it gave, then a line feed: the number returned, the values given, and every lent buffer
-// as it is left. A case is a head of 15 words (the call, eight numbers, the lengths of five slices of words and of one of bytes), then the slices. A place
+// as it is left. A case is a head of 19 words (the call, eight numbers, the lengths of nine slices of words and of one of bytes), then the slices. A place
 // for a value holds 7777 before the call.
 ghost use mathlib.Core.Path.{_≡_};
 ghost use Prim.Native.Nat.{_≤_};
@@ -149,6 +149,136 @@ fn dealing_call(
         5 => outcome(p, l, e, n, a, b, c),
         6 => rehearse(p, l, e, n, a, b, c),
         _ => combine(p, a, b),
+    }
+}
+
+// TWO DEALINGS TIED BY A MAP
+fn deal_mapped(
+    p: u16,
+    l: u16,
+    e: u16,
+    n: u16,
+    holder: u16,
+    matrix: &[u16],
+    secrets: &[u16],
+    random: &[u16],
+    phi: &[u16],
+    random2: &[u16],
+    g: &mut [u16],
+    h: &mut [u16],
+    g2: &mut [u16],
+    h2: &mut [u16],
+) {
+    print(c_api::mavdrusek_deal_mapped(
+        p,
+        l,
+        e,
+        n,
+        matrix,
+        secrets,
+        random,
+        phi,
+        random2,
+        holder,
+        g,
+        h,
+        g2,
+        h2,
+    ));
+    print_words(g);
+    print_words(h);
+    print_words(g2);
+    print_words(h2);
+}
+
+fn deal_mapped_all(
+    p: u16,
+    l: u16,
+    e: u16,
+    n: u16,
+    matrix: &[u16],
+    secrets: &[u16],
+    random: &[u16],
+    phi: &[u16],
+    random2: &[u16],
+    gs: &mut [u16],
+    hs: &mut [u16],
+    gs2: &mut [u16],
+    hs2: &mut [u16],
+) {
+    print(c_api::mavdrusek_deal_mapped_all(
+        p,
+        l,
+        e,
+        n,
+        matrix,
+        secrets,
+        random,
+        phi,
+        random2,
+        gs,
+        hs,
+        gs2,
+        hs2,
+    ));
+    print_words(gs);
+    print_words(hs);
+    print_words(gs2);
+    print_words(hs2);
+}
+
+fn judge_mapped(
+    p: u16,
+    l: u16,
+    e: u16,
+    n: u16,
+    matrix: &[u16],
+    h: &[u16],
+    values: &[u16],
+    phi: &[u16],
+    h2: &[u16],
+    values2: &[u16],
+) {
+    let mut x: u16 = 7777;
+    let mut y: u16 = 7777;
+    let number = c_api::mavdrusek_judge_mapped(
+        p,
+        l,
+        e,
+        n,
+        matrix,
+        h,
+        values,
+        phi,
+        h2,
+        values2,
+        &mut x,
+        &mut y,
+    );
+    two(number, x, y);
+}
+
+fn mapped_call(
+    call: u16,
+    p: u16,
+    l: u16,
+    e: u16,
+    n: u16,
+    x: u16,
+    a: &mut [u16],
+    b: &mut [u16],
+    c: &mut [u16],
+    d: &mut [u16],
+    f: &mut [u16],
+    g: &mut [u16],
+    h: &mut [u16],
+    i: &mut [u16],
+    j: &mut [u16],
+) {
+    match call {
+        28 => deal_mapped(p, l, e, n, x, a, b, c, d, f, g, h, i, j),
+        29 => deal_mapped_all(p, l, e, n, a, b, c, d, f, g, h, i, j),
+        _ => judge_mapped(p, l, e, n, a, b, c, d, f, g),
     }
 }
 
@@ -320,6 +450,41 @@ fn write_share(
     );
 }
 
+fn write_mapped_dealing(
+    p: u16,
+    l: u16,
+    e: u16,
+    n: u16,
+    dealing: u16,
+    holder: u16,
+    g: &[u16],
+    h: &[u16],
+    phi: &[u16],
+    out: &mut [u8],
+) {
+    written(
+        c_api::mavdrusek_write_mapped_dealing(p, l, e, n, dealing, holder, g, h, phi, out),
+        out,
+    );
+}
+
+fn write_mapped_pair_value(
+    p: u16,
+    l: u16,
+    e: u16,
+    n: u16,
+    dealing: u16,
+    sender: u16,
+    receiver: u16,
+    value: u16,
+    out: &mut [u8],
+) {
+    written(
+        c_api::mavdrusek_write_mapped_pair_value(p, l, e, n, dealing, sender, receiver, value, out),
+        out,
+    );
+}
+
 fn writing_call(
     call: u16,
     p: u16,
@@ -332,6 +497,7 @@ fn writing_call(
     w: u16,
     a: &[u16],
     b: &[u16],
+    c: &[u16],
     out: &mut [u8],
 ) {
     match call {
@@ -339,6 +505,8 @@ fn writing_call(
         14 => write_dealing(p, l, e, n, x, y, a, b, out),
         15 => write_pair_value(p, l, e, n, x, y, z, w, out),
         16 => write_verdict(p, l, e, n, x, y, z, out),
+        31 => write_mapped_dealing(p, l, e, n, x, y, a, b, c, out),
+        32 => write_mapped_pair_value(p, l, e, n, x, y, z, w, out),
         _ => write_share(p, l, e, n, x, y, z, w, out),
     }
 }
@@ -392,6 +560,44 @@ fn read_share(p: u16, l: u16, e: u16, n: u16, part: &[u8]) {
     four(number, x, y, z, w);
 }
 
+fn read_mapped_dealing(
+    p: u16,
+    l: u16,
+    e: u16,
+    n: u16,
+    part: &[u8],
+    g: &mut [u16],
+    h: &mut [u16],
+    phi: &mut [u16],
+) {
+    let mut x: u16 = 7777;
+    let mut y: u16 = 7777;
+    let number = c_api::mavdrusek_read_mapped_dealing(p, l, e, n, part, g, h, phi, &mut x, &mut y);
+    two(number, x, y);
+    print_words(g);
+    print_words(h);
+    print_words(phi);
+}
+
+fn read_mapped_pair_value(p: u16, l: u16, e: u16, n: u16, part: &[u8]) {
+    let mut x: u16 = 7777;
+    let mut y: u16 = 7777;
+    let mut z: u16 = 7777;
+    let mut w: u16 = 7777;
+    let number = c_api::mavdrusek_read_mapped_pair_value(
+        p,
+        l,
+        e,
+        n,
+        part,
+        &mut x,
+        &mut y,
+        &mut z,
+        &mut w,
+    );
+    four(number, x, y, z, w);
+}
+
 fn reading_call(
     call: u16,
     p: u16,
@@ -401,6 +607,7 @@ fn reading_call(
     part: &[u8],
     a: &mut [u16],
     b: &mut [u16],
+    c: &mut [u16],
 ) {
     match call {
         18 => read_setup_head(part),
@@ -408,6 +615,8 @@ fn reading_call(
         20 => read_dealing(p, l, e, n, part, a, b),
         21 => read_pair_value(p, l, e, n, part),
         22 => read_verdict(p, l, e, n, part),
+        33 => read_mapped_dealing(p, l, e, n, part, a, b, c),
+        34 => read_mapped_pair_value(p, l, e, n, part),
         _ => read_share(p, l, e, n, part),
     }
 }
@@ -426,7 +635,7 @@ fn print_place(x: usize) {
 
 // What a holder's file prints.
 fn holder_file(file: &[u8]) {
-    let mut text = [0u8; 256];
+    let mut text = [0u8; 512];
     let mut count: usize = 7777;
     let mut byte: usize = 7777;
     print(c_api::mavdrusek_holder_file(file, &mut text, &mut count, &mut byte));
@@ -445,12 +654,16 @@ fn read_file(file: &[u8], contents: &mut [u16]) {
 
 // CASES
 fn call(
-    k: &[u16; 15],
+    k: &[u16; 19],
     a: &mut [u16],
     b: &mut [u16],
     c: &mut [u16],
     d: &mut [u16],
     f: &mut [u16],
+    g: &mut [u16],
+    h: &mut [u16],
+    i: &mut [u16],
+    j: &mut [u16],
     bytes: &mut [u8],
 ) {
     let p = k[1];
@@ -466,8 +679,9 @@ fn call(
         24 => read_file(bytes, a),
         26 => deal_key(bytes, a, b, c),
         27 => open_key(set(x, y), a, bytes),
-        13..=17 => writing_call(k[0], p, l, e, n, x, y, z, k[8], a, b, bytes),
-        18..=23 => reading_call(k[0], p, l, e, n, bytes, a, b),
+        28..=30 => mapped_call(k[0], p, l, e, n, x, a, b, c, d, f, g, h, i, j),
+        13..=17 | 31..=32 => writing_call(k[0], p, l, e, n, x, y, z, k[8], a, b, c, bytes),
+        18..=23 | 33..=34 => reading_call(k[0], p, l, e, n, bytes, a, b, c),
         _ => opening_call(k[0], p, l, e, n, set(x, y), z, a, b, c),
     }
 }
@@ -517,36 +731,48 @@ fn read_bytes(len: usize) -> [u8; 4096]
 }
 
 // The slices of a case, and its call.
-fn run(k: &[u16; 15]) {
-    let i = words_len(k[9]);
-    let j = words_len(k[10]);
-    let l = words_len(k[11]);
-    let m = words_len(k[12]);
-    let n = words_len(k[13]);
-    let o = bytes_len(k[14]);
-    let mut a = read_words(i);
-    let mut b = read_words(j);
-    let mut c = read_words(l);
-    let mut d = read_words(m);
-    let mut e = read_words(n);
-    let mut f = read_bytes(o);
+fn run(k: &[u16; 19]) {
+    let len_a = words_len(k[9]);
+    let len_b = words_len(k[10]);
+    let len_c = words_len(k[11]);
+    let len_d = words_len(k[12]);
+    let len_f = words_len(k[13]);
+    let len_g = words_len(k[14]);
+    let len_h = words_len(k[15]);
+    let len_i = words_len(k[16]);
+    let len_j = words_len(k[17]);
+    let len_bytes = bytes_len(k[18]);
+    let mut a = read_words(len_a);
+    let mut b = read_words(len_b);
+    let mut c = read_words(len_c);
+    let mut d = read_words(len_d);
+    let mut f = read_words(len_f);
+    let mut g = read_words(len_g);
+    let mut h = read_words(len_h);
+    let mut i = read_words(len_i);
+    let mut j = read_words(len_j);
+    let mut bytes = read_bytes(len_bytes);
     call(
         k,
-        &mut a[..i],
-        &mut b[..j],
-        &mut c[..l],
-        &mut d[..m],
-        &mut e[..n],
-        &mut f[..o],
+        &mut a[..len_a],
+        &mut b[..len_b],
+        &mut c[..len_c],
+        &mut d[..len_d],
+        &mut f[..len_f],
+        &mut g[..len_g],
+        &mut h[..len_h],
+        &mut i[..len_i],
+        &mut j[..len_j],
+        &mut bytes[..len_bytes],
     );
     io::write_all(STDOUT_FILENO, b"\n");
 }
 
 // The next case; false where there is none.
 fn next() -> bool {
-    let mut bytes = [0u8; 30];
-    let mut head = [0u16; 15];
-    if !read(&mut bytes, 30) {
+    let mut bytes = [0u8; 38];
+    let mut head = [0u16; 19];
+    if !read(&mut bytes, 38) {
         return false;
     }
     record_layouts::get_words(&bytes, 0, &mut head);

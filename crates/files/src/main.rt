@@ -8,7 +8,7 @@ use libc::STDOUT_FILENO;
 fn print(file: &[u8])
     requires { ⌜ length (now file) ≤ 4096 ⌝ }
 {
-    let mut text = [0u8; 256];
+    let mut text = [0u8; 512];
     let count = holder_file::print_file(file, &mut text);
     io::write_all(STDOUT_FILENO, &text[..count]);
 }
