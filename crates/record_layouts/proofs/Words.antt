@@ -138,19 +138,21 @@ pub sets-whole : (l vs : List ℕ) → length vs ≡ length l → sets l 0 vs �
 sets-whole l vs e =
     sets-eq vs l 0 (omega (arith, e)) ∙ ap (λ r. vs ++ r) (drop-of-length-le l {i = 0 + length vs} (omega (arith, e))) ∙ append-nil vs
 
--- two runs and three that fill the list
-pub two-runs : (l a b : List ℕ) (i : ℕ) → length a ≡ i → length l ≡ 2 * (i + length b) → sets (sets l 0 (bytes a)) (2 * i) (bytes b) ≡ bytes (a ++ b)
-two-runs l a b i p q =
-    sets-append l 0 (bytes a) (bytes b) (2 * i) (omega (arith, length-bytes a, ap (λ n. 2 * n) p))
-    ∙ ap (sets l 0) (sym (bytes-append a b))
-    ∙ sets-whole l (bytes (a ++ b)) (omega (arith, length-bytes (a ++ b), length-append a b))
+-- runs of which each begins where the one before it ends
+pub two-joined : (l a b : List ℕ) (i : ℕ) → length a ≡ i → sets (sets l 0 (bytes a)) (2 * i) (bytes b) ≡ sets l 0 (bytes (a ++ b))
+two-joined l a b i p =
+    sets-append l 0 (bytes a) (bytes b) (2 * i) (omega (arith, length-bytes a, ap (λ n. 2 * n) p)) ∙ ap (sets l 0) (sym (bytes-append a b))
 
-pub three-runs : (l a b c : List ℕ) (i j : ℕ) → length a ≡ i → i + length b ≡ j → length l ≡ 2 * (j + length c)
-    → sets (sets (sets l 0 (bytes a)) (2 * i) (bytes b)) (2 * j) (bytes c) ≡ bytes (a ++ (b ++ c))
-three-runs l a b c i j p q r =
-    ap (λ m. sets m (2 * j) (bytes c)) (sets-append l 0 (bytes a) (bytes b) (2 * i) (omega (arith, length-bytes a, ap (λ n. 2 * n) p)) ∙ ap (sets l 0) (sym (bytes-append a b)))
-    ∙ two-runs l (a ++ b) c j (length-append a b ∙ omega arith) r
-    ∙ ap bytes (append-assoc a b c)
+pub three-joined : (l a b c : List ℕ) (i j : ℕ) → length a ≡ i → i + length b ≡ j
+    → sets (sets (sets l 0 (bytes a)) (2 * i) (bytes b)) (2 * j) (bytes c) ≡ sets l 0 (bytes (a ++ (b ++ c)))
+three-joined l a b c i j p q =
+    ap (λ m. sets m (2 * j) (bytes c)) (two-joined l a b i p)
+    ∙ two-joined l (a ++ b) c j (length-append a b ∙ omega arith)
+    ∙ ap (λ ws. sets l 0 (bytes ws)) (append-assoc a b c)
+
+-- two that fill the list
+pub two-runs : (l a b : List ℕ) (i : ℕ) → length a ≡ i → length l ≡ 2 * (i + length b) → sets (sets l 0 (bytes a)) (2 * i) (bytes b) ≡ bytes (a ++ b)
+two-runs l a b i p q = two-joined l a b i p ∙ sets-whole l (bytes (a ++ b)) (omega (arith, length-bytes (a ++ b), length-append a b))
 
 -- a turn of the loop that writes words
 pub put-turn : (l ws : List ℕ) (i k : ℕ) → k < length ws

@@ -1,17 +1,23 @@
 // Writing records into lent bytes: the open calls. What each refuses, answers and leaves in its buffer is said by record_layouts' specs/Records.antt;
 // where nothing is refused the buffer has just the record's bytes.
 ghost use mathlib.Core.Path.{_≡_};
-ghost use mathlib.Core.List.{[]};
-ghost use Prim.Native.Nat.{_+_, _*_};
+ghost use mathlib.Core.List.{[], _∷_, _++_};
+ghost use Prim.Native.Nat.{_+_, _*_, _≤_};
 ghost use lib.ListN.{length};
-ghost use Rattle.scheme.specs.Setup.{setupOf};
+ghost use lib.Seq.{sets};
+ghost use Rattle.base.specs.Rules.{refusal};
+ghost use Rattle.scheme.specs.Setup.{dim, setupOf};
+ghost use Rattle.scheme.specs.Calls.{limits, size};
 ghost use Rattle.scheme.specs.Answers.{paperWritten};
 ghost use Rattle.record_layouts.specs.Words.{bytes};
-ghost use Rattle.record_layouts.specs.Records.{setupWords, writeSetupCall, writeSetupLeft, dealingWords, writeDealingCall, writeDealingLeft};
-ghost use Rattle.record_layouts.specs.Records.{writePairCall, writePairLeft, writeVerdictCall, writeVerdictLeft, writeShareCall, writeShareLeft};
+ghost use Rattle.record_layouts.specs.Records.{setupWords, writeSetupCall, writeSetupLeft, writeDealingCall, writeDealingLeft, mappedWords, writeMappedCall, writeMappedLeft};
+ghost use Rattle.record_layouts.specs.Records.{pairLayoutOf, writeCall, writeLeft, writePairCall, writePairLeft, writeMappedPairCall, writeMappedPairLeft};
+ghost use Rattle.record_layouts.specs.Records.{writeVerdictCall, writeVerdictLeft, writeShareCall, writeShareLeft};
 use record_layouts::DEALING_HEAD;
 use record_layouts::DealingRecord;
+use record_layouts::MARK_DF;
 use record_layouts::MARK_DL;
+use record_layouts::MARK_PF;
 use record_layouts::MARK_PV;
 use record_layouts::MARK_SH;
 use record_layouts::MARK_SU;
@@ -52,48 +58,95 @@ pub fn write_setup(s: Params, matrix: &[u16], out: &mut [u8]) -> Written
     Written::Done
 }
 
-// DL
-// The words of a DL, which fill the buffer.
-fn put_dealing(x: DealingRecord, g: &[u16], h: &[u16], out: &mut [u8])
-    requires { ⌜ 2 * (3 + length (now g) + length (now h)) ≡ length (now out) ⌝ }
-    ensures { λ _. ⌜ now (out .exit) ≡ bytes (dealingWords x (now (g .entry)) (now (h .entry))) ⌝ }
+// DL AND DF
+// The words that both begin with, under a mark.
+fn put_dealing(mark: u16, x: DealingRecord, g: &[u16], h: &[u16], out: &mut [u8])
+    requires { ⌜ 2 * (3 + length (now g) + length (now h)) ≤ length (now out) ⌝ }
+    ensures { λ _. ⌜ now (out .exit) ≡ sets (now (out .entry)) 0 (bytes (mark ∷ x .dealing ∷ x .holder ∷ now (g .entry) ++ now (h .entry))) ⌝ }
 {
-    let head = [MARK_DL, x.dealing, x.holder];
+    let head = [mark, x.dealing, x.holder];
     record_layouts::put_words(out, 0, &head);
     record_layouts::put_words(out, 3, g);
     record_layouts::put_words(out, 3 + g.len(), h);
+}
+
+// The words of a DF, which fill the buffer.
+fn put_mapped(x: DealingRecord, g: &[u16], h: &[u16], phi: &[u16], out: &mut [u8])
+    requires { ⌜ 2 * (3 + length (now g) + length (now h) + length (now phi)) ≡ length (now out) ⌝ }
+    ensures { λ _. ⌜ now (out .exit) ≡ bytes (mappedWords x (now (g .entry)) (now (h .entry)) (now (phi .entry))) ⌝ }
+{
+    put_dealing(MARK_DF, x, g, h, out);
+    record_layouts::put_words(out, 3 + g.len() + h.len(), phi);
+}
+
+// The limits, and the lengths of the buffer, of g and of h.
+fn lengths_refusal(s: Params, room: usize, needed: usize, g_len: usize, h_len: usize) -> u16
+    ensures { λ r. ⌜ r ≡ refusal (limits (setupOf s []) ++ size «room» «needed» ∷ size «g_len» (dim (setupOf s [])) ∷ size «h_len» (dim (setupOf s [])) ∷ []) ⌝ }
+{
+    let d = s.dim();
+    let a = scheme::or_size(scheme::limits_refusal(s), room, needed);
+    let b = scheme::or_size(a, g_len, d);
+    scheme::or_size(b, h_len, d)
 }
 
 pub fn write_dealing(s: Params, x: DealingRecord, g: &[u16], h: &[u16], out: &mut [u8]) -> Written
     ensures answer { λ r. ⌜ paperWritten r ≡ writeDealingCall (setupOf s []) x (now (g .entry)) (now (h .entry)) (now (out .entry)) ⌝ }
     ensures buffer { λ _. ⌜ now (out .exit) ≡ writeDealingLeft (setupOf s []) x (now (g .entry)) (now (h .entry)) (now (out .entry)) ⌝ }
 {
-    let d = s.dim();
-    let a = scheme::or_size(scheme::limits_refusal(s), out.len(), DEALING_HEAD + 4 * d);
-    let b = scheme::or_size(a, g.len(), d);
-    let c = scheme::or_size(b, h.len(), d);
+    let c = lengths_refusal(s, out.len(), DEALING_HEAD + 4 * s.dim(), g.len(), h.len());
     let e = scheme::or_elements(scheme::or_elements(c, s.p, g), s.p, h);
     let refusal = record_layouts::dealing_faults(e, s, x);
     if refusal != 0 {
         return Written::Refused(refusal);
     }
-    put_dealing(x, g, h, out);
+    put_dealing(MARK_DL, x, g, h, out);
     Written::Done
 }
 
-// PV
-pub fn write_pair_value(s: Params, x: PairRecord, out: &mut [u8]) -> Written
-    ensures answer { λ r. ⌜ paperWritten r ≡ writePairCall (setupOf s []) x (now (out .entry)) ⌝ }
-    ensures buffer { λ _. ⌜ now (out .exit) ≡ writePairLeft (setupOf s []) x (now (out .entry)) ⌝ }
+pub fn write_mapped_dealing(s: Params, x: DealingRecord, g: &[u16], h: &[u16], phi: &[u16], out: &mut [u8]) -> Written
+    ensures answer { λ r. ⌜ paperWritten r ≡ writeMappedCall (setupOf s []) x (now (g .entry)) (now (h .entry)) (now (phi .entry)) (now (out .entry)) ⌝ }
+    ensures buffer { λ _. ⌜ now (out .exit) ≡ writeMappedLeft (setupOf s []) x (now (g .entry)) (now (h .entry)) (now (phi .entry)) (now (out .entry)) ⌝ }
+{
+    let len = record_layouts::map_len(s);
+    let a = lengths_refusal(s, out.len(), DEALING_HEAD + 4 * s.dim() + 2 * len, g.len(), h.len());
+    let b = scheme::or_size(a, phi.len(), len);
+    let e = scheme::or_elements(scheme::or_elements(b, s.p, g), s.p, h);
+    let refusal = record_layouts::dealing_faults(scheme::or_elements(e, s.p, phi), s, x);
+    if refusal != 0 {
+        return Written::Refused(refusal);
+    }
+    put_mapped(x, g, h, phi, out);
+    Written::Done
+}
+
+// PV AND PF
+// PV's fields, under a mark.
+fn write_pair(mark: u16, s: Params, x: PairRecord, out: &mut [u8]) -> Written
+    ensures answer { λ r. ⌜ paperWritten r ≡ writeCall (pairLayoutOf mark) (setupOf s []) x (now (out .entry)) ⌝ }
+    ensures buffer { λ _. ⌜ now (out .exit) ≡ writeLeft (pairLayoutOf mark) (setupOf s []) x (now (out .entry)) ⌝ }
 {
     let a = scheme::or_size(scheme::limits_refusal(s), out.len(), PAIR_SIZE);
     let refusal = record_layouts::pair_faults(a, s, x);
     if refusal != 0 {
         return Written::Refused(refusal);
     }
-    let all = [MARK_PV, x.dealing, x.sender, x.receiver, x.value];
+    let all = [mark, x.dealing, x.sender, x.receiver, x.value];
     record_layouts::put_words(out, 0, &all);
     Written::Done
+}
+
+pub fn write_pair_value(s: Params, x: PairRecord, out: &mut [u8]) -> Written
+    ensures answer { λ r. ⌜ paperWritten r ≡ writePairCall (setupOf s []) x (now (out .entry)) ⌝ }
+    ensures buffer { λ _. ⌜ now (out .exit) ≡ writePairLeft (setupOf s []) x (now (out .entry)) ⌝ }
+{
+    write_pair(MARK_PV, s, x, out)
+}
+
+pub fn write_mapped_pair_value(s: Params, x: PairRecord, out: &mut [u8]) -> Written
+    ensures answer { λ r. ⌜ paperWritten r ≡ writeMappedPairCall (setupOf s []) x (now (out .entry)) ⌝ }
+    ensures buffer { λ _. ⌜ now (out .exit) ≡ writeMappedPairLeft (setupOf s []) x (now (out .entry)) ⌝ }
+{
+    write_pair(MARK_PF, s, x, out)
 }
 
 // VD

@@ -1,4 +1,4 @@
--- The three words, then g, then h are three runs that fill the buffer just up.
+-- The three words, then g, then h are three runs, each of which begins where the one before it ends.
 use Prim.Native.Nat.{_+_, _*_}
 use mathlib.Core.List.{[], _∷_}
 use mathlib.Core.Path.{refl, ap, _∙_}
@@ -7,8 +7,7 @@ use borrow.Author.Needs.{needs}
 use lib.Seq.{sets}
 use lib.ListN.{length}
 use Rattle.record_layouts.specs.Words.{bytes}
-use Rattle.record_layouts.proofs.Words.{three-runs}
-use Rattle.record_layouts.specs.Records.{markDL}
+use Rattle.record_layouts.proofs.Words.{three-joined}
 use Rattle.record_writing.proofs.put_dealing.Statement.{statement}
 use Rattle.record_writing.proofs.put_dealing.Tie as tie
 
@@ -37,7 +36,7 @@ returns c =
     c .before .before .put-words3 .ensures
     ∙ ap (λ l. sets l (2 * (3 + n)) (bytes (x .h .now)))
     (c .before .before .before .before .before .before .put-words2 .ensures ∙ ap (λ l. sets l 6 (bytes (x .g .now))) (c .before .before .before .before .before .before .before .before .before .before .put-words .ensures))
-    ∙ three-runs (x .out .now) (markDL ∷ x .x .dealing ∷ x .x .holder ∷ []) (x .g .now) (x .h .now) 3 (3 + n) refl refl (omega arith)
+    ∙ three-joined (x .out .now) (x .mark ∷ x .x .dealing ∷ x .x .holder ∷ []) (x .g .now) (x .h .now) 3 (3 + n) refl refl
 
 pub put-dealing-spec : {M : Type 1} → statement M
 put-dealing-spec =

@@ -8,17 +8,17 @@ use lib.ListN.{length}
 use Rattle.base.specs.Rules.{refusal}
 use Rattle.base.proofs.Rules.{declined, unchanged, accepted, written}
 use Rattle.scheme.specs.Setup.{setupOf}
-use Rattle.record_layouts.specs.Records.{writeRules, markPV, pairLayout}
+use Rattle.record_layouts.specs.Records.{writeRules, pairLayoutOf}
 use Rattle.record_layouts.proofs.Layouts.{wrote, filled, pair-lawful}
-use Rattle.record_writing.proofs.write_pair_value.Statement.{statement}
-use Rattle.record_writing.proofs.write_pair_value.Tie as tie
+use Rattle.record_writing.proofs.write_pair.Statement.{statement}
+use Rattle.record_writing.proofs.write_pair.Tie as tie
 
 is : (c : tie.After-pair-faults) → let x = c .before .before .before .before .args in
-    c .pair-faults .result ≡ refusal (writeRules pairLayout (setupOf (x .s) []) (x .x) (length (x .out .now)))
+    c .pair-faults .result ≡ refusal (writeRules (pairLayoutOf (x .mark)) (setupOf (x .s) []) (x .x) (length (x .out .now)))
 is c = cc
 
 none : (c : tie.Else1) → let x = c .before .before .before .before .before .args in
-    refusal (writeRules pairLayout (setupOf (x .s) []) (x .x) (length (x .out .now))) ≡ 0
+    refusal (writeRules (pairLayoutOf (x .mark)) (setupOf (x .s) []) (x .x) (length (x .out .now))) ≡ 0
 none c = sym (is (c .before)) ∙ c .if1 .left
 
 limits-refusal-requires : tie.Need-limits-refusal-requires
@@ -39,7 +39,7 @@ slice-aggregate-put-words c = search needs
 put-words-requires : tie.Need-put-words-requires
 put-words-requires c κs =
     let x = c .before .before .before .before .before .before .before .args in
-    omega (arith, wrote pairLayout (pair-lawful markPV) (setupOf (x .s) []) (x .x) (length (x .out .now)) (none (c .before .before)) .fills)
+    omega (arith, wrote (pairLayoutOf (x .mark)) (pair-lawful (x .mark)) (setupOf (x .s) []) (x .x) (length (x .out .now)) (none (c .before .before)) .fills)
 
 same-length : tie.Need-same-length
 same-length c = search needs
@@ -49,10 +49,10 @@ returns-2 c =
     let w = c .before .before .before .before .before in
     let x = w .before .before .before .before .before .args in
     let z = none w in
-    (accepted _ _ z, written _ _ _ _ z (c .before .before .put-words .ensures ∙ filled pairLayout (pair-lawful markPV) (setupOf (x .s) []) (x .x) (x .out .now) z))
+    (accepted _ _ z, written _ _ _ _ z (c .before .before .put-words .ensures ∙ filled (pairLayoutOf (x .mark)) (pair-lawful (x .mark)) (setupOf (x .s) []) (x .x) (x .out .now) z))
 
-pub write-pair-value-spec : {M : Type 1} → statement M
-write-pair-value-spec =
+pub write-pair-spec : {M : Type 1} → statement M
+write-pair-spec =
     tie.close
     (tie.spec
     limits-refusal-requires
