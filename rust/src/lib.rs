@@ -14,8 +14,8 @@
 //! passes slices and turns numbers into types. The library tests all it is lent, lengths too, and refuses what is wrong; after a refusal every lent
 //! slice holds what it held before.
 //!
-//! Two keys may be tied by a public map, an ℓ by ℓ matrix φ: [`Setup::deal_mapped_all`] deals both, [`Setup::judge_mapped`] also checks the map, and every
-//! column of the second opens to φ times that column of the first, though the dealer lied.
+//! Two keys may be tied by a public map, an ℓ by ℓ matrix φ: [`Setup::deal_mapped_all`] deals both, and [`Setup::judge_mapped`] also checks the map. Where
+//! holders who follow the rules have kept both, a column that opens in both opens to a secret and to φ times it, though the dealer lied.
 //!
 //! A board key is sixteen bytes over one fixed setup, [`BOARD`]: [`deal_key`] and [`open_key`] take and give it as a [`Key`].
 //!
