@@ -2,12 +2,16 @@
 // is not looked at. What each refuses, answers and leaves in its buffers is said by record_layouts' specs/Records.antt.
 ghost use mathlib.Core.Path.{_≡_};
 ghost use mathlib.Core.List.{[]};
+ghost use Prim.Native.Nat.{_+_, _≤_};
+ghost use lib.ListN.{length};
 ghost use Rattle.scheme.specs.Setup.{setupOf};
 ghost use Rattle.scheme.specs.Answers.{paperWritten};
 ghost use Rattle.record_layouts.specs.Records.{readSetupCall, readMatrixCall, readMatrixLeft, readDealingCall, readDealingLeftG, readDealingLeftH};
-ghost use Rattle.record_layouts.specs.Records.{readPairCall, readVerdictCall, readShareCall};
+ghost use Rattle.record_layouts.specs.Records.{dealingSize, dealingG, dealingH, readMappedCall, readMappedLeftG, readMappedLeftH, readMappedLeftPhi};
+ghost use Rattle.record_layouts.specs.Records.{pairLayoutOf, pairAt, pairValues, readCall, readPairCall, readMappedPairCall, readVerdictCall, readShareCall};
 ghost use Rattle.record_layouts.specs.Records.{paperSetupRead, paperDealingRead, paperPairRead, paperVerdictRead, paperShareRead};
 use record_layouts::DealingRead;
+use record_layouts::MARK_PF;
 use record_layouts::MARK_PV;
 use record_layouts::MARK_SH;
 use record_layouts::MARK_VD;
@@ -45,6 +49,16 @@ pub fn read_setup_matrix(s: &[u8], matrix: &mut [u16]) -> Written
     Written::Done
 }
 
+// g and h of a DL or a DF.
+fn get_parts(s: Params, part: &[u8], g: &mut [u16], h: &mut [u16])
+    requires { ⌜ (length (now g) ≡ s .l + s .e) × (length (now h) ≡ s .l + s .e) × (dealingSize (setupOf s []) ≤ length (now part)) ⌝ }
+    ensures row { λ _. ⌜ now (g .exit) ≡ dealingG (setupOf s []) (now (part .entry)) ⌝ }
+    ensures column { λ _. ⌜ now (h .exit) ≡ dealingH (setupOf s []) (now (part .entry)) ⌝ }
+{
+    record_layouts::get_words(part, 3, g);
+    record_layouts::get_words(part, 3 + s.dim(), h);
+}
+
 // The dealing number and the holder of a DL; g and h go into lent buffers of d entries.
 pub fn read_dealing(s: Params, part: &[u8], g: &mut [u16], h: &mut [u16]) -> DealingRead
     ensures answer { λ r. ⌜ paperDealingRead r ≡ readDealingCall (setupOf s []) (now (part .entry)) (now (g .entry)) (now (h .entry)) ⌝ }
@@ -55,21 +69,55 @@ pub fn read_dealing(s: Params, part: &[u8], g: &mut [u16], h: &mut [u16]) -> Dea
     if refusal != 0 {
         return DealingRead::Refused(refusal);
     }
-    record_layouts::get_words(part, 3, g);
-    record_layouts::get_words(part, 3 + s.dim(), h);
+    get_parts(s, part, g, h);
     DealingRead::Is(record_layouts::dealing_at(part))
 }
 
-pub fn read_pair_value(s: Params, part: &[u8]) -> PairRead
-    ensures { λ r. ⌜ paperPairRead r ≡ readPairCall (setupOf s []) (now (part .entry)) ⌝ }
+// The dealing number and the holder of a DF; g, h and φ go into lent buffers of d, d and ℓ * ℓ entries.
+pub fn read_mapped_dealing(
+    s: Params,
+    part: &[u8],
+    g: &mut [u16],
+    h: &mut [u16],
+    phi: &mut [u16],
+) -> DealingRead
+    ensures answer { λ r. ⌜ paperDealingRead r ≡ readMappedCall (setupOf s []) (now (part .entry)) (now (g .entry)) (now (h .entry)) (now (phi .entry)) ⌝ }
+    ensures row { λ _. ⌜ now (g .exit) ≡ readMappedLeftG (setupOf s []) (now (part .entry)) (now (g .entry)) (now (h .entry)) (now (phi .entry)) ⌝ }
+    ensures column { λ _. ⌜ now (h .exit) ≡ readMappedLeftH (setupOf s []) (now (part .entry)) (now (g .entry)) (now (h .entry)) (now (phi .entry)) ⌝ }
+    ensures map { λ _. ⌜ now (phi .exit) ≡ readMappedLeftPhi (setupOf s []) (now (part .entry)) (now (g .entry)) (now (h .entry)) (now (phi .entry)) ⌝ }
+{
+    let refusal = record_layouts::mapped_refusal(s, part, g.len(), h.len(), phi.len());
+    if refusal != 0 {
+        return DealingRead::Refused(refusal);
+    }
+    get_parts(s, part, g, h);
+    record_layouts::get_words(part, 3 + 2 * s.dim(), phi);
+    DealingRead::Is(record_layouts::dealing_at(part))
+}
+
+// PV's fields, under a mark.
+fn read_pair(mark: u16, s: Params, part: &[u8]) -> PairRead
+    ensures { λ r. ⌜ paperPairRead r ≡ readCall (pairLayoutOf mark) (setupOf s []) [] (now (part .entry)) (pairValues (pairAt (now (part .entry)))) ⌝ }
 {
     let x = record_layouts::pair_at(part);
-    let a = record_layouts::or_due(scheme::limits_refusal(s), part, MARK_PV, PAIR_SIZE);
+    let a = record_layouts::or_due(scheme::limits_refusal(s), part, mark, PAIR_SIZE);
     let refusal = record_layouts::pair_faults(a, s, x);
     if refusal != 0 {
         return PairRead::Refused(refusal);
     }
     PairRead::Is(x)
+}
+
+pub fn read_pair_value(s: Params, part: &[u8]) -> PairRead
+    ensures { λ r. ⌜ paperPairRead r ≡ readPairCall (setupOf s []) (now (part .entry)) ⌝ }
+{
+    read_pair(MARK_PV, s, part)
+}
+
+pub fn read_mapped_pair_value(s: Params, part: &[u8]) -> PairRead
+    ensures { λ r. ⌜ paperPairRead r ≡ readMappedPairCall (setupOf s []) (now (part .entry)) ⌝ }
+{
+    read_pair(MARK_PF, s, part)
 }
 
 pub fn read_verdict(s: Params, part: &[u8]) -> VerdictRead

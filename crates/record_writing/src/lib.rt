@@ -103,12 +103,25 @@ pub fn write_dealing(s: Params, x: DealingRecord, g: &[u16], h: &[u16], out: &mu
     Written::Done
 }
 
-pub fn write_mapped_dealing(s: Params, x: DealingRecord, g: &[u16], h: &[u16], phi: &[u16], out: &mut [u8]) -> Written
+pub fn write_mapped_dealing(
+    s: Params,
+    x: DealingRecord,
+    g: &[u16],
+    h: &[u16],
+    phi: &[u16],
+    out: &mut [u8],
+) -> Written
     ensures answer { λ r. ⌜ paperWritten r ≡ writeMappedCall (setupOf s []) x (now (g .entry)) (now (h .entry)) (now (phi .entry)) (now (out .entry)) ⌝ }
     ensures buffer { λ _. ⌜ now (out .exit) ≡ writeMappedLeft (setupOf s []) x (now (g .entry)) (now (h .entry)) (now (phi .entry)) (now (out .entry)) ⌝ }
 {
     let len = record_layouts::map_len(s);
-    let a = lengths_refusal(s, out.len(), DEALING_HEAD + 4 * s.dim() + 2 * len, g.len(), h.len());
+    let a = lengths_refusal(
+        s,
+        out.len(),
+        DEALING_HEAD + 4 * s.dim() + 2 * len,
+        g.len(),
+        h.len(),
+    );
     let b = scheme::or_size(a, phi.len(), len);
     let e = scheme::or_elements(scheme::or_elements(b, s.p, g), s.p, h);
     let refusal = record_layouts::dealing_faults(scheme::or_elements(e, s.p, phi), s, x);

@@ -6,16 +6,16 @@ use Rattle.base.specs.Rules.{refusal, given}
 use Rattle.base.proofs.Rules.{declined, accepted}
 use Rattle.scheme.specs.Setup.{setupOf}
 use Rattle.record_layouts.specs.declared.PairRecord.{PairRecord}
-use Rattle.record_layouts.specs.Records.{readRules, pairValues, pairLayout}
+use Rattle.record_layouts.specs.Records.{readRules, pairValues, pairLayoutOf}
 use Rattle.record_layouts.proofs.Calls.{plain-read}
-use Rattle.record_reading.proofs.read_pair_value.Statement.{statement}
-use Rattle.record_reading.proofs.read_pair_value.Tie as tie
+use Rattle.record_reading.proofs.read_pair.Statement.{statement}
+use Rattle.record_reading.proofs.read_pair.Tie as tie
 
 is : (c : tie.After-pair-faults) → let x = c .before .before .before .before .before .args in
-    c .pair-faults .result ≡ refusal (readRules pairLayout (setupOf (x .s) []) [] (x .part .now))
+    c .pair-faults .result ≡ refusal (readRules (pairLayoutOf (x .mark)) (setupOf (x .s) []) [] (x .part .now))
 is c =
     let x = c .before .before .before .before .before .args in
-    plain-read pairLayout (setupOf (x .s) []) (x .part .now) _ _ _ _
+    plain-read (pairLayoutOf (x .mark)) (setupOf (x .s) []) (x .part .now) _ _ _ _
     (c .before .before .before .pair-at .ensures) (c .before .before .limits-refusal .ensures) (c .before .or-due .ensures) (c .pair-faults .ensures)
 
 pair-at-requires : tie.Need-pair-at-requires
@@ -38,8 +38,8 @@ returns-2 c =
     ap (λ (y : PairRecord). given (pairValues y)) (c .before .before .before .before .pair-at .ensures)
     ∙ accepted _ _ (sym (is (c .before)) ∙ c .if1 .left)
 
-pub read-pair-value-spec : {M : Type 1} → statement M
-read-pair-value-spec =
+pub read-pair-spec : {M : Type 1} → statement M
+read-pair-spec =
     tie.close
     (tie.spec
     pair-at-requires
