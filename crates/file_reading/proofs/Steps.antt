@@ -3,13 +3,14 @@ use Prim.Native.Nat.{ℕ, zero, suc, _+_, _-_, _*_, _<_, _≤_}
 use mathlib.Core.Bool.{Bool, true, false, not, _&&_, false≢true}
 use mathlib.Core.List.{List, [], _++_}
 use mathlib.Core.Path.{_≡_, refl, sym, ap, subst, _∙_}
+use native.Mathlib.Nat.{mul-le-mul}
 use native.Mathlib.Omega.{arith}
-use borrow.Author.Tests.{eq-eqb, ne-eqb, lt-ltb, eqb-false, ltb-false, leb-false}
+use borrow.Author.Tests.{eq-eqb, ne-eqb, lt-ltb, le-ltb, eqb-true, eqb-false, ltb-false, leb-false, not-false}
 use lib.Dec.{eqb, ltb, lit≤}
 use lib.ListN.{length, take, drop, replicate, length-drop}
 use lib.Seq.{getD-take, length-take-le}
 use Rattle.base.specs.Choice.{pick}
-use Rattle.base.specs.Rules.{refusal}
+use Rattle.base.specs.Rules.{refusal, Clear}
 use Rattle.base.specs.Search.{first, Vec}
 use Rattle.base.proofs.Fill.{tab-ext, tab-is}
 use Rattle.field.specs.Fields.{isField}
@@ -28,16 +29,16 @@ use Rattle.scheme.proofs.Verdicts.{kept-means}
 use Rattle.record_layouts.specs.declared.DealingRecord.{DealingRecord}
 use Rattle.record_layouts.specs.Words.{wordAt, wordsAt}
 use Rattle.record_layouts.proofs.Words.{length-words, getD-words, word-behind}
-use Rattle.record_layouts.specs.Records.{markSU, setupAt, setupSize, dealingSize, dealingAt, dealingG, dealingH, readSetupRules, standingRules, dealingLayout, paramsAt}
+use Rattle.record_layouts.specs.Records.{markSU, markDF, due, setupAt, setupSize, dealingSize, mappedSize, dealingAt, dealingG, dealingH, mappedPhi, readSetupRules, listsRules, standingRules, dealingLayout, mappedLayout, paramsAt}
 use Rattle.record_layouts.proofs.Calls.{setup-read, dim-small, matrix-small}
 use Rattle.file_records.specs.declared.Sent.{Sent}
-use Rattle.file_records.specs.declared.Lists.{Lists}
-use Rattle.file_records.specs.Inner.{Sends, Whole, Holds}
-use Rattle.file_records.proofs.Reading.{all-pass, values-small, verdicts-small}
+use Rattle.file_records.specs.declared.PartLists.{PartLists}
+use Rattle.file_records.specs.Inner.{Sends, Small, HoldsPart}
+use Rattle.file_records.proofs.Reading.{all-pass, values-small, values2-small, verdicts-small}
 use Rattle.file_reading.specs.declared.Told.{Told}
-use Rattle.file_reading.specs.Contents.{Contents, verdictOf, judgement, fate, keptShares}
-use Rattle.file_reading.specs.File.{FileRead, refusedAt, whole, setupFault, dealingFault, headOf, ofContents, orRefused, ofReceived, ofDealing, readFile, eight, paramsOf, told}
-use Rattle.file_reading.specs.Inner.{partOf, Fair, contentsIn, Tells}
+use Rattle.file_reading.specs.Contents.{Kind, plain, mapped, Contents, isMapped, values2, sharesOf, verdictOf, judgement, fate, keptShares, keptMapped}
+use Rattle.file_reading.specs.File.{FileRead, refusedAt, whole, setupFault, dealingFault, hasMap, mappedRules, mappedFault, firstByte, start, headOf, kindAt, ofContents, orRefused, ofReceived, ofMapped, ofDealing, readFile, eight, paramsOf, told}
+use Rattle.file_reading.specs.Inner.{partOf, secondOf, Fair, contentsIn, Tells}
 
 -- A REFUSAL IS NO CONTENTS
 isWhole : FileRead → Bool
@@ -138,6 +139,55 @@ dealing-read S t L z =
       eqb-false (wordAt t 1) 0 (f .1 .1 .1 .0),
     )
 
+-- DF
+pub has-none : (t : List ℕ) → length t < 2 → hasMap t ≡ false
+unfolding hasMap
+has-none t l = rw (lt-ltb (length t) 2 l) refl
+
+pub has-mark : (t : List ℕ) → 2 ≤ length t → hasMap t ≡ eqb (wordAt t 0) markDF
+unfolding hasMap
+has-mark t l = rw (le-ltb (length t) 2 l) refl
+
+module _ (S : Setup) (x : DealingRecord) (t : List ℕ) where
+  pub map-none : hasMap t ≡ false → 0 ≡ mappedFault S x t
+  unfolding mappedFault
+  map-none e = rw e refl
+
+  pub map-own : hasMap t ≡ true → refusal (mappedRules S x t) ≡ mappedFault S x t
+  unfolding mappedFault
+  map-own e = rw e refl
+
+-- a DF that is not refused
+pub record MappedIs (S : Setup) (x : DealingRecord) (t : List ℕ) : Type 0 where
+  pub due : Clear (due markDF (mappedSize S) t)
+  pub long : mappedSize S ≤ length t
+  pub numbers : dealingAt t ≡ x
+  pub row : Vec (S .p) (dim S) (dealingG S t)
+  pub column : Vec (S .p) (dim S) (dealingH S t)
+  pub map : Vec (S .p) (S .l * S .l) (mappedPhi S t)
+
+pub mapped-read : (S : Setup) (x : DealingRecord) (t : List ℕ) → Limits S → hasMap t ≡ true → mappedFault S x t ≡ 0 → MappedIs S x t
+mapped-read S x t L b z =
+    let c = clear (mappedRules S x t) tt (map-own S x t b ∙ z) in
+    let r = c .1 .1 in
+    let f = r .1 in
+    let pos = limits-pos S L in
+    let holder : wordAt t 2 ≡ x .holder = eqb-true (wordAt t 2) (x .holder) (not-false _ (f .1 .1 .1 .0)) in
+    let dealing : wordAt t 1 ≡ x .dealing = eqb-true (wordAt t 1) (x .dealing) (not-false _ (f .1 .1 .1 .1 .0)) in
+    record {
+      due = (c .0, (c .1 .0, (r .0, tt)));
+      long = ltb-false (length t) (mappedSize S) (r .0);
+      numbers = λ i. record { dealing = dealing i; holder = holder i };
+      row = vec-of (S .p) (dim S) (dealingG S t) pos (length-words t 3 (dim S)) (f .0);
+      column = vec-of (S .p) (dim S) (dealingH S t) pos (length-words t (3 + dim S) (dim S)) (f .1 .0);
+      map = vec-of (S .p) (S .l * S .l) (mappedPhi S t) pos (length-words t (3 + 2 * dim S) (S .l * S .l)) (f .1 .1 .0);
+    }
+
+-- what is read as a second part does not depend on the values where there is none
+pub kind-same : (S : Setup) (b : Bool) (t v w : List ℕ) → (b ≡ true → v ≡ w) → kindAt S b t v ≡ kindAt S b t w
+kind-same S true t v w e = rw (e refl) refl
+kind-same S false t v w e = refl
+
 -- SU
 pub setup-own : (s : List ℕ) → (length s ≡ 0 → ⊥) → refusal (readSetupRules s) ≡ setupFault s
 unfolding setupFault
@@ -169,16 +219,27 @@ module _ (s : List ℕ) (z : setupFault s ≡ 0) (S : Setup) (is : S ≡ setupAt
   unfolding ofDealing
   file-dealing-refused k f n =
       let t = drop (setupSize S) s in
-      let r = ofReceived S (dealingAt t) (dealingG S t) (dealingH S t) s in
+      let r = ofMapped S (dealingAt t) (dealingG S t) (dealingH S t) s in
       refused-here k (setupSize S) r n ∙ ap (λ (j : ℕ). orRefused j (setupSize S) r) f ∙ file-dealing
 
-  pub file-next : {x : DealingRecord} {g h : List ℕ} → dealingFault S (drop (setupSize S) s) ≡ 0 → x ≡ dealingAt (drop (setupSize S) s)
-      → g ≡ dealingG S (drop (setupSize S) s) → h ≡ dealingH S (drop (setupSize S) s) → ofReceived S x g h s ≡ readFile s
-  unfolding ofDealing
-  file-next {x} {g} {h} f a b c =
-      let t = drop (setupSize S) s in
-      let o : ofReceived S x g h s ≡ ofReceived S (dealingAt t) (dealingG S t) (dealingH S t) s = rw (a, b, c) refl in
-      o ∙ goes-on (dealingFault S t) (setupSize S) (ofReceived S (dealingAt t) (dealingG S t) (dealingH S t) s) f ∙ file-dealing
+  module _ {x : DealingRecord} {g h : List ℕ} (f : dealingFault S (drop (setupSize S) s) ≡ 0) (a : x ≡ dealingAt (drop (setupSize S) s))
+      (b : g ≡ dealingG S (drop (setupSize S) s)) (c : h ≡ dealingH S (drop (setupSize S) s)) where
+    file-mapped : ofMapped S x g h s ≡ readFile s
+    unfolding ofDealing
+    file-mapped =
+        let t = drop (setupSize S) s in
+        let o : ofMapped S x g h s ≡ ofMapped S (dealingAt t) (dealingG S t) (dealingH S t) s = rw (a, b, c) refl in
+        o ∙ goes-on (dealingFault S t) (setupSize S) (ofMapped S (dealingAt t) (dealingG S t) (dealingH S t) s) f ∙ file-dealing
+
+    pub file-mapped-refused : (k : ℕ) → k ≡ mappedFault S x (drop (firstByte S) s) → (k ≡ 0 → ⊥) → refusedAt k (firstByte S) ≡ readFile s
+    unfolding ofMapped
+    file-mapped-refused k e n =
+        let r = ofReceived S x g h (hasMap (drop (firstByte S) s)) s in
+        refused-here k (firstByte S) r n ∙ ap (λ (j : ℕ). orRefused j (firstByte S) r) e ∙ file-mapped
+
+    pub file-next : mappedFault S x (drop (firstByte S) s) ≡ 0 → ofReceived S x g h (hasMap (drop (firstByte S) s)) s ≡ readFile s
+    unfolding ofMapped
+    file-next e = goes-on (mappedFault S x (drop (firstByte S) s)) (firstByte S) (ofReceived S x g h (hasMap (drop (firstByte S) s)) s) e ∙ file-mapped
 
 -- SU AND DL IN ORDER
 module _ (s : List ℕ) (F : Fair s) where
@@ -189,21 +250,28 @@ module _ (s : List ℕ) (F : Fair s) where
       × Vec (setupAt s .p) (dim (setupAt s)) (dealingH (setupAt s) (partOf s)) × (dealingSize (setupAt s) ≤ length (partOf s)) × (wordAt (partOf s) 1 ≡ 0 → ⊥)
   dealing-fair = dealing-read (setupAt s) (partOf s) (setup-fair .0 .limits) (deal-clear (setupAt s) (partOf s) (F .dealing))
 
-  pub front-fits : setupSize (setupAt s) + dealingSize (setupAt s) ≤ length s
+  pub front-fits : firstByte (setupAt s) ≤ length s
   front-fits = both-fit (setupSize (setupAt s)) (dealingSize (setupAt s)) s (setup-fair .1) (dealing-fair .3)
 
-  -- their lists can be read
-  pub lists-there : (p : Params) → p ≡ paramsAt s → Whole (setupOf p []) (length s)
-  lists-there p e =
+  -- their lists have room
+  pub lists-small : (p : Params) → p ≡ paramsAt s → Small (setupOf p [])
+  lists-small p e =
       let L = setup-fair .0 .limits in
-      subst (λ (q : Params). Whole (setupOf q []) (length s)) (sym e)
-      (record { secret = L .secret .1; width = dim-small (setupAt s) L; entries = matrix-small (setupAt s) L; there = front-fits })
+      let l = L .secret .1 in
+      subst (λ (q : Params). Small (setupOf q [])) (sym e)
+      (record { secret = l; width = dim-small (setupAt s) L; entries = matrix-small (setupAt s) L; map = mul-le-mul {n₁ = setupAt s .l} {m₁ = setupAt s .l} {n₂ = 8} {m₂ = 8} l l })
 
--- THE LISTS OF DL in the whole file
-pub words-behind : (s : List ℕ) (a k i c : ℕ) → a ≡ 2 * k → wordsAt (drop a s) i c ≡ wordsAt s (k + i) c
-unfolding wordsAt
-words-behind s a k i c e =
-    rw e (tab-ext c (λ j. wordAt (drop (2 * k) s) (i + j)) (λ j. wordAt s (k + i + j)) (λ j m. word-behind s k (i + j) ∙ ap (wordAt s) (omega arith)))
+  -- a DF behind them, where it is not refused
+  pub second-fair : mappedFault (setupAt s) (dealingAt (partOf s)) (secondOf s) ≡ 0 → hasMap (secondOf s) ≡ true
+      → MappedIs (setupAt s) (dealingAt (partOf s)) (secondOf s)
+  second-fair z b = mapped-read (setupAt s) (dealingAt (partOf s)) (secondOf s) (setup-fair .0 .limits) b z
+
+  pub start-fits : mappedFault (setupAt s) (dealingAt (partOf s)) (secondOf s) ≡ 0 → start (setupAt s) (hasMap (secondOf s)) ≤ length s
+  start-fits z = go (hasMap (secondOf s)) refl
+    where
+      go : (b : Bool) → hasMap (secondOf s) ≡ b → start (setupAt s) b ≤ length s
+      go true e = both-fit (firstByte (setupAt s)) (mappedSize (setupAt s)) s front-fits (second-fair z e .long)
+      go false e = omega (arith, front-fits)
 
 take-words : (t : List ℕ) (i l d : ℕ) → l ≤ d → take l (wordsAt t i d) ≡ wordsAt t i l
 unfolding wordsAt
@@ -220,74 +288,78 @@ drop-zeros zero n = ap zeros {x = n} {y = n - 0} (omega arith)
 drop-zeros (suc k) zero = ap zeros {x = 0} {y = 0 - suc k} (omega arith)
 drop-zeros (suc k) (suc n) = drop-zeros k n ∙ ap zeros {x = n - k} {y = suc n - suc k} (omega arith)
 
-shares-read : (s : List ℕ) → let S = setupAt s in
-    wordsAt s (8 + S .n * dim S) (S .l) ++ drop (S .l) (zeros 8) ≡ eight (take (S .l) (dealingG S (partOf s)))
-shares-read s =
-    let S = setupAt s in
-    let t = partOf s in
-    let w : take (S .l) (dealingG S t) ≡ wordsAt s (8 + S .n * dim S) (S .l) =
-    take-words t 3 (S .l) (dim S) (omega arith) ∙ words-behind s (setupSize S) (5 + S .n * dim S) 3 (S .l) (omega arith) ∙ ap (λ (i : ℕ). wordsAt s i (S .l)) (omega arith) in
-    rw (w, length-words s (8 + S .n * dim S) (S .l)) (ap (λ (l : List ℕ). wordsAt s (8 + S .n * dim S) (S .l) ++ l) (drop-zeros (S .l) 8))
+-- the shares of a DL or DF, as they were read
+pub shares-read : (S : Setup) (t : List ℕ) (r : PartLists) → HoldsPart S t r → r .shares ≡ eight (take (S .l) (dealingG S t))
+shares-read S t r H =
+    let w = take-words t 3 (S .l) (dim S) (omega arith) in
+    H .shares ∙ rw (w, length-words t 3 (S .l)) (ap (λ (l : List ℕ). wordsAt t 3 (S .l) ++ l) (drop-zeros (S .l) 8))
 
 -- ALL RECORDS, by what was received
-module _ (s : List ℕ) (F : Fair s) (r : Sent) (W : Sends (headOf (setupAt s) (dealingAt (partOf s))) (drop (setupSize (setupAt s) + dealingSize (setupAt s)) s) r) where
+module _ (s : List ℕ) (F : Fair s) (z : mappedFault (setupAt s) (dealingAt (partOf s)) (secondOf s) ≡ 0) (r : Sent)
+    (W : Sends (headOf (setupAt s) (dealingAt (partOf s)) (hasMap (secondOf s))) (drop (start (setupAt s) (hasMap (secondOf s))) s) r) where
   abbrev S : Setup
   S = setupAt s
 
   abbrev from : ℕ
-  from = setupSize (setupAt s) + dealingSize (setupAt s)
+  from = start (setupAt s) (hasMap (secondOf s))
 
   abbrev read : FileRead
-  read = ofContents (contentsIn s (take (setupAt s .n) (r .values)) (take (setupAt s .n) (r .verdicts))) (length s)
+  read = ofContents (contentsIn s (take (setupAt s .n) (r .values)) (take (setupAt s .n) (r .values2)) (take (setupAt s .n) (r .verdicts))) (length s)
 
   all-read : orRefused (r .refusal) (from + r .byte) read ≡ readFile s
   unfolding ofReceived
   all-read =
-      rw (W .number, W .byte, W .values, W .verdicts) (file-next s (F .setup) S refl (F .dealing) refl refl refl)
+      rw (W .number, W .byte, W .values, W .verdicts, kind-same S (hasMap (secondOf s)) (secondOf s) (take (S .n) (r .values2)) _ (W .values2))
+      (file-next s (F .setup) S refl (F .dealing) refl refl refl z)
 
   pub sent-refused : (r .refusal ≡ 0 → ⊥) → refusedAt (r .refusal) (from + r .byte) ≡ readFile s
   sent-refused n = refused-here (r .refusal) (from + r .byte) read n ∙ all-read
 
-  pub sent-next : r .refusal ≡ 0
-      → Vec (S .p) (S .n) (take (S .n) (r .values)) × Vec 2 (S .n) (take (S .n) (r .verdicts)) × (read ≡ readFile s)
-  sent-next z =
-      let h = headOf S (dealingAt (partOf s)) in
-      let t = drop from s in
-      let all = all-pass h t (sym (W .number) ∙ z) .1 in
-      (rw (W .values) (values-small h t all), rw (W .verdicts) (verdicts-small h t all), goes-on (r .refusal) (from + r .byte) read z ∙ all-read)
+  pub record SentIs : Type 0 where
+    pub received : Vec (S .p) (S .n) (take (S .n) (r .values))
+    pub received2 : hasMap (secondOf s) ≡ true → Vec (S .p) (S .n) (take (S .n) (r .values2))
+    pub heard : Vec 2 (S .n) (take (S .n) (r .verdicts))
+    pub is : read ≡ readFile s
 
--- THE LISTS, as they were read
-pub lists-read : (s : List ℕ) (p : Params) → p ≡ paramsAt s → (r : Lists) → Holds (setupOf p []) s r
-    → (setupOf p (take (p .n * (p .l + p .e)) (r .matrix)) ≡ setupAt s) × (take (p .l + p .e) (r .h) ≡ dealingH (setupAt s) (partOf s))
-    × (r .shares ≡ eight (take (setupAt s .l) (dealingG (setupAt s) (partOf s))))
-lists-read s p e r =
-    subst (λ (q : Params). Holds (setupOf q []) s r
-    → (setupOf q (take (q .n * (q .l + q .e)) (r .matrix)) ≡ setupAt s) × (take (q .l + q .e) (r .h) ≡ dealingH (setupAt s) (partOf s))
-    × (r .shares ≡ eight (take (setupAt s .l) (dealingG (setupAt s) (partOf s))))) (sym e)
-    (λ H. let S = setupAt s in (
-      ap (setupOf (paramsAt s)) (H .matrix),
-      H .h ∙ ap (λ (i : ℕ). wordsAt s i (dim S)) {x = 8 + S .n * dim S + dim S} {y = 5 + S .n * dim S + (3 + dim S)} (omega arith)
-          ∙ sym (words-behind s (setupSize S) (5 + S .n * dim S) (3 + dim S) (dim S) (omega arith)),
-      H .shares ∙ shares-read s,
-    ))
+  pub sent-next : r .refusal ≡ 0 → SentIs
+  sent-next none =
+      let h = headOf S (dealingAt (partOf s)) (hasMap (secondOf s)) in
+      let t = drop from s in
+      let all = all-pass h t (sym (W .number) ∙ none) .1 in
+      record {
+        received = rw (W .values) (values-small h t all);
+        received2 = λ b. rw (W .values2 b) (values2-small h t all b);
+        heard = rw (W .verdicts) (verdicts-small h t all);
+        is = goes-on (r .refusal) (from + r .byte) read none ∙ all-read;
+      }
 
 -- WHAT IS TOLD
 pub fate-same : (s : Params) (m verdicts : List ℕ) → fateOf (setupOf s []) verdicts ≡ fateOf (setupOf s m) verdicts
 unfolding fateOf isKept
 fate-same s m verdicts = refl
 
-pub kept-shares : (S : Setup) (g verdicts xs : List ℕ) → fateOf S verdicts ≡ Kept → xs ≡ eight (take (S .l) g) → xs ≡ eight (pick (isKept S verdicts) (take (S .l) g) [])
-kept-shares S g verdicts xs e q = rw (kept-means S verdicts (ap paperFate e)) q
+pub kept-shares : (S : Setup) (verdicts g xs : List ℕ) → fateOf S verdicts ≡ Kept → xs ≡ eight g → xs ≡ eight (pick (isKept S verdicts) g [])
+kept-shares S verdicts g xs e q = rw (kept-means S verdicts (ap paperFate e)) q
 
-pub no-shares : (S : Setup) (g verdicts : List ℕ) (i : ℕ) → fateOf S verdicts ≡ Aborted i → zeros 8 ≡ eight (pick (isKept S verdicts) (take (S .l) g) [])
+pub no-shares : (S : Setup) (verdicts g : List ℕ) (i : ℕ) → fateOf S verdicts ≡ Aborted i → zeros 8 ≡ eight (pick (isKept S verdicts) g [])
 unfolding fateOf
-no-shares S g verdicts i = go (isKept S verdicts)
+no-shares S verdicts g i = go (isKept S verdicts)
   where
-    go : (b : Bool) → pick b Kept (Aborted (first (saidReject verdicts) (S .n))) ≡ Aborted i → zeros 8 ≡ eight (pick b (take (S .l) g) [])
+    go : (b : Bool) → pick b Kept (Aborted (first (saidReject verdicts) (S .n))) ≡ Aborted i → zeros 8 ≡ eight (pick b g [])
     go true e = absurd (let z : _≡_ {A = ℕ} 1 0 = ap (λ (f : Fate). at (paperFate f .values) 0) e in omega arith)
     go false e = refl
 
-pub told-is : (C : Contents) (p : Params) (x : DealingRecord) (j : Judgement) (f : Fate) (xs : List ℕ) → p ≡ paramsOf (C .setup)
-    → x ≡ record { dealing = C .dealing; holder = C .holder } → j ≡ judgement C → f ≡ fate C → xs ≡ eight (keptShares C)
-    → record { setup = p; dealing = x .dealing; holder = x .holder; outcome = record { judgement = j; fate = f }; shares = xs } ≡ told C
-told-is C p x j f xs a b c d e = rw (a, b, c, d, e) refl
+pub told-is : (C : Contents) (p : Params) (x : DealingRecord) (j : Judgement) (f : Fate) (xs ys : List ℕ) (b : Bool) → p ≡ paramsOf (C .setup)
+    → x ≡ record { dealing = C .dealing; holder = C .holder } → j ≡ judgement C → f ≡ fate C → xs ≡ eight (keptShares C) → b ≡ isMapped (C .kind)
+    → ys ≡ eight (keptMapped C)
+    → record { setup = p; dealing = x .dealing; holder = x .holder; outcome = record { judgement = j; fate = f }; shares = xs; mapped = b; shares2 = ys } ≡ told C
+told-is C p x j f xs ys m a b c d e g i = rw (a, b, c, d, e, g, i) refl
+
+-- whether there is a second part, and its values
+pub kind-mapped : (S : Setup) (b : Bool) (t v : List ℕ) → b ≡ isMapped (kindAt S b t v)
+kind-mapped S true t v = refl
+kind-mapped S false t v = refl
+
+pub kind-values : (S : Setup) (b : Bool) (t v : List ℕ) → b ≡ true → values2 (kindAt S b t v) ≡ v
+kind-values S true t v e = refl
+kind-values S false t v e = absurd (false≢true e)

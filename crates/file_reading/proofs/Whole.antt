@@ -19,22 +19,23 @@ use Rattle.base.specs.Rules.{refusal}
 use Rattle.base.proofs.Choice.{picked}
 use Rattle.base.proofs.Rules.{clear, never}
 use Rattle.field.specs.Dot.{at}
-use Rattle.scheme.specs.Setup.{Setup, dim, IsSetup}
+use Rattle.scheme.specs.Setup.{Setup, dim, Limits, IsSetup}
 use Rattle.record_layouts.specs.Words.{bytes, wordAt, Bytes}
 use Rattle.record_layouts.proofs.Words.{length-words}
 use Rattle.record_layouts.specs.declared.DealingRecord.{DealingRecord}
-use Rattle.record_layouts.specs.Records.{markSU, setupWords, dealingWords, setupAt, setupSize, dealingSize, dealingAt, dealingG, dealingH, readSetupRules, standingRules, dealingLayout}
+use Rattle.record_layouts.specs.Records.{markSU, setupWords, dealingWords, setupAt, setupSize, dealingSize, mappedSize, dealingAt, dealingG, dealingH, mappedPhi, readSetupRules, standingRules, dealingLayout, mappedLayout}
 use Rattle.record_layouts.proofs.Calls.{setup-read}
-use Rattle.record_layouts.proofs.Layouts.{dealing-lawful}
+use Rattle.record_layouts.proofs.Layouts.{dealing-lawful, mapped-lawful}
 use Rattle.record_layouts.proofs.Exact.{standing-bytes, setup-bytes}
 use Rattle.file_records.specs.declared.Head.{Head}
-use Rattle.file_records.specs.Received.{place, faultAt, reached, valuesAt, verdictsAt}
-use Rattle.file_records.proofs.Reading.{nothing-behind, eleven-ends, all-pass, reached-inside, values-small, verdicts-small}
-use Rattle.file_records.proofs.Records.{exact}
-use Rattle.file_reading.specs.Contents.{Contents, InOrder, judgement, verdictOf, fileBytes}
-use Rattle.file_reading.specs.File.{FileRead, refusedAt, whole, numberOf, byteOf, setupFault, dealingFault, headOf, contentsOf, ofContents, orRefused, ofReceived, ofDealing, readFile}
+use Rattle.file_records.specs.Received.{records, place, faultAt, reached, sentAt, verdictsAt, received}
+use Rattle.file_records.proofs.Reading.{nothing-behind, eleven-ends, all-pass, reached-inside, values-small, values2-small, verdicts-small}
+use Rattle.file_records.proofs.Records.{exact, received-same}
+use Rattle.file_reading.specs.Contents.{Contents, OfKind, InOrder, values2, judgement, verdictOf, mappedBytes, fileBytes}
+use Rattle.file_reading.specs.Contents as contents
+use Rattle.file_reading.specs.File.{FileRead, refusedAt, whole, numberOf, byteOf, setupFault, dealingFault, hasMap, mappedRules, mappedFault, firstByte, start, headOf, kindAt, contentsOf, ofContents, orRefused, ofReceived, ofMapped, ofDealing, readFile}
 use Rattle.file_reading.specs.Sound.{Missing}
-use Rattle.file_reading.proofs.Steps.{not-whole, same-contents, isSecond, setup-clear, deal-clear, dealing-read, both-fit}
+use Rattle.file_reading.proofs.Steps.{not-whole, same-contents, isSecond, setup-clear, deal-clear, dealing-read, MappedIs, mapped-read, kind-mapped, kind-values, both-fit}
 
 or-whole : (k byte : ℕ) (r : FileRead) (C : Contents) → orRefused k byte r ≡ whole C → (k ≡ 0) × (r ≡ whole C)
 or-whole zero byte r C e = (refl, e)
@@ -54,29 +55,40 @@ module _ (s : List ℕ) (C : Contents) (e : readFile s ≡ whole C) where
   x : DealingRecord
   x = dealingAt (drop (setupSize (setupAt s)) s)
 
-  -- the records behind DL
+  -- the file behind DL, and whether a DF stands there
+  second : List ℕ
+  second = drop (firstByte (setupAt s)) s
+
+  tied : Bool
+  tied = hasMap (drop (firstByte (setupAt s)) s)
+
+  -- the records behind
   sent : List ℕ
-  sent = drop (setupSize (setupAt s) + dealingSize (setupAt s)) s
+  sent = drop (start (setupAt s) (hasMap (drop (firstByte (setupAt s)) s))) s
 
   head : Head
-  head = headOf (setupAt s) (dealingAt (drop (setupSize (setupAt s)) s))
+  head = headOf (setupAt s) (dealingAt (drop (setupSize (setupAt s)) s)) (hasMap (drop (firstByte (setupAt s)) s))
 
   from-setup : (setupFault s ≡ 0) × (ofDealing (setupAt s) s ≡ whole C)
   unfolding readFile
   from-setup = or-whole (setupFault s) 0 (ofDealing (setupAt s) s) C e
 
-  from-dealing : (dealingFault S t ≡ 0) × (ofReceived S x (dealingG S t) (dealingH S t) s ≡ whole C)
+  from-dealing : (dealingFault S t ≡ 0) × (ofMapped S x (dealingG S t) (dealingH S t) s ≡ whole C)
   unfolding ofDealing S t x
-  from-dealing = or-whole (dealingFault S t) (setupSize S) (ofReceived S x (dealingG S t) (dealingH S t) s) C (from-setup .1)
+  from-dealing = or-whole (dealingFault S t) (setupSize S) (ofMapped S x (dealingG S t) (dealingH S t) s) C (from-setup .1)
+
+  from-mapped : (mappedFault S x second ≡ 0) × (ofReceived S x (dealingG S t) (dealingH S t) tied s ≡ whole C)
+  unfolding ofMapped S t x second tied
+  from-mapped = or-whole (mappedFault S x second) (firstByte S) (ofReceived S x (dealingG S t) (dealingH S t) tied s) C (from-dealing .1)
 
   D : Contents
-  D = contentsOf S x (dealingG S t) (dealingH S t) (valuesAt (S .n) sent) (verdictsAt (S .n) sent)
+  D = contentsOf S x (dealingG S t) (dealingH S t) (sentAt head 0 sent) (verdictsAt head sent) (kindAt S tied second (sentAt head (S .n) sent))
 
   from-received : (faultAt head sent (reached head sent) ≡ 0) × (ofContents D (length s) ≡ whole C)
-  unfolding ofReceived S t x sent head D
+  unfolding ofReceived S t x second tied sent head D
   from-received =
       let k = reached head sent in
-      or-whole (faultAt head sent k) (setupSize S + dealingSize S + place (S .n) k) (ofContents D (length s)) C (from-dealing .1)
+      or-whole (faultAt head sent k) (start S tied + place head k) (ofContents D (length s)) C (from-mapped .1)
 
   from-contents : (eqb (at (D .verdicts) (D .holder)) (verdictOf (judgement D)) ≡ true) × (whole D ≡ whole C)
   unfolding ofContents
@@ -85,8 +97,13 @@ module _ (s : List ℕ) (C : Contents) (e : readFile s ≡ whole C) where
   contents-are : D ≡ C
   contents-are = same-contents D C (from-contents .1)
 
-  pass : (reached head sent ≡ 2 * head .n) × ((k : ℕ) → k < 2 * head .n → faultAt head sent k ≡ 0)
+  pass : (reached head sent ≡ records head) × ((k : ℕ) → k < records head → faultAt head sent k ≡ 0)
   pass = all-pass head sent (from-received .0)
+
+  -- a DF that stands there
+  map-is : tied ≡ true → MappedIs S x second
+  unfolding S second tied
+  map-is b = mapped-read S x second (setup-read s (setup-clear s (from-setup .0)) .0 .limits) b (from-mapped .0)
 
   pub whole-setup : C .setup ≡ setupAt s
   unfolding D S
@@ -99,6 +116,13 @@ module _ (s : List ℕ) (C : Contents) (e : readFile s ≡ whole C) where
   pub whole-row : length (C .g) ≡ dim (C .setup)
   unfolding D S t
   whole-row = rw (← contents-are) (length-words t 3 (dim S))
+
+  of-kind : (b : Bool) → tied ≡ b → OfKind S (kindAt S b second (sentAt head (S .n) sent))
+  unfolding S head tied
+  of-kind true b =
+      let M = map-is b in
+      record { row = M .row; column = M .column; map = M .map; received = values2-small head sent (pass .1) b }
+  of-kind false b = tt
 
   pub whole-in-order : Bytes s → InOrder C
   unfolding D S t x head
@@ -115,31 +139,57 @@ module _ (s : List ℕ) (C : Contents) (e : readFile s ≡ whole C) where
         column = d .2;
         received = values-small head sent (pass .1);
         heard = verdicts-small head sent (pass .1);
+        second = of-kind tied refl;
         own = eqb-true _ _ (from-contents .0);
       })
 
   -- and the file is that of these contents
-  pub whole-bytes : Bytes s → s ≡ fileBytes C
-  unfolding D S t x head sent
-  whole-bytes bs =
-      let U = setup-read s (setup-clear s (from-setup .0)) in
-      let mark = eqb-true (wordAt s 0) markSU (not-false _ (clear (readSetupRules s) tt (setup-clear s (from-setup .0)) .1 .0)) in
-      let c = clear (standingRules dealingLayout S t) tt (deal-clear S t (from-dealing .0)) in
-      let su = setup-bytes s bs mark (U .1) in
-      let dl = standing-bytes dealingLayout dealing-lawful S t (behind (setupSize S)) (c .0, (c .1 .0, (c .1 .1 .0, tt))) in
-      let end : length sent ≤ place (head .n) (2 * head .n) = nothing-behind head (2 * head .n) sent refl (sym (ap (faultAt head sent) (pass .0)) ∙ from-received .0) in
-      let rest = exact head sent (behind (setupSize S + dealingSize S)) (pass .1) end in
-      let a = take (setupSize S) s in
-      let b = take (dealingSize S) t in
-      let split : s ≡ a ++ b ++ sent =
-      sym (take-append-drop (setupSize S) s) ∙ ap (λ (l : List ℕ). a ++ l) (sym (take-append-drop (dealingSize S) t) ∙ ap (λ (l : List ℕ). b ++ l) (drop-drop (dealingSize S) (setupSize S) s))
-      ∙ sym (append-assoc a b sent) in
-      rw (← contents-are)
-      (split ∙ ap (λ (l : List ℕ). l ++ b ++ sent) su ∙ ap (λ (l : List ℕ). bytes (setupWords S) ++ l ++ sent) dl
-      ∙ ap (λ (l : List ℕ). bytes (setupWords S) ++ bytes (dealingWords x (dealingG S t) (dealingH S t)) ++ l) rest)
-    where
-      behind : (a : ℕ) → Bytes (drop a s)
-      behind a i = rw (getD-drop a s i 0) (bs (a + i))
+  module _ (bs : Bytes s) where
+    behind : (a : ℕ) → Bytes (drop a s)
+    behind a i = rw (getD-drop a s i 0) (bs (a + i))
+
+    -- the DF, or nothing, and what comes behind it
+    second-bytes : (b : Bool) → tied ≡ b → second ≡ mappedBytes x (kindAt S b second (sentAt head (S .n) sent)) ++ drop (pick b (mappedSize S) 0) second
+    second-bytes true b =
+        let M = map-is b in
+        let df = standing-bytes mappedLayout mapped-lawful S second (unfold second in behind (firstByte (setupAt s))) (M .due) in
+        sym (take-append-drop (mappedSize S) second)
+        ∙ ap (λ (l : List ℕ). l ++ drop (mappedSize S) second)
+        (df ∙ ap (λ (y : DealingRecord). mappedBytes y (kindAt S true second (sentAt head (S .n) sent))) (M .numbers))
+    second-bytes false b = refl
+
+    behind-second : drop (pick tied (mappedSize S) 0) second ≡ sent
+    unfolding S second tied sent
+    behind-second = drop-drop (pick tied (mappedSize S) 0) (firstByte S) s
+
+    received-bytes : sent ≡ received head (sentAt head 0 sent) (values2 (kindAt S tied second (sentAt head (S .n) sent))) (verdictsAt head sent)
+    received-bytes =
+        let end : length sent ≤ place head (records head) = nothing-behind head (records head) sent refl (sym (ap (faultAt head sent) (pass .0)) ∙ from-received .0) in
+        let rest = exact head sent (unfold sent in behind (start (setupAt s) (hasMap (drop (firstByte (setupAt s)) s)))) (pass .1) end in
+        rest ∙ received-same head _ _ _ _ (λ b. sym (kind-values S tied second _ (unfold head tied in b)))
+
+    -- what the records are held against is what stands in the contents
+    same-head : head ≡ contents.head D
+    unfolding D head S x tied second
+    same-head i = record { p = S .p; n = S .n; dealing = x .dealing; holder = x .holder; mapped = kind-mapped S tied second (sentAt head (S .n) sent) i }
+
+    pub whole-bytes : s ≡ fileBytes C
+    unfolding D S t x head
+    whole-bytes =
+        let U = setup-read s (setup-clear s (from-setup .0)) in
+        let mark = eqb-true (wordAt s 0) markSU (not-false _ (clear (readSetupRules s) tt (setup-clear s (from-setup .0)) .1 .0)) in
+        let c = clear (standingRules dealingLayout S t) tt (deal-clear S t (from-dealing .0)) in
+        let su = setup-bytes s bs mark (U .1) in
+        let dl = standing-bytes dealingLayout dealing-lawful S t (behind (setupSize S)) (c .0, (c .1 .0, (c .1 .1 .0, tt))) in
+        let a = bytes (setupWords S) in
+        let b = bytes (dealingWords x (dealingG S t) (dealingH S t)) in
+        let df = mappedBytes x (kindAt S tied second (sentAt head (S .n) sent)) in
+        let next : drop (dealingSize S) t ≡ second = unfold second in drop-drop (dealingSize S) (setupSize S) s in
+        rw (← contents-are)
+        (sym (take-append-drop (setupSize S) s) ∙ ap (λ (l : List ℕ). l ++ t) su
+        ∙ ap (λ (l : List ℕ). a ++ l) (sym (take-append-drop (dealingSize S) t) ∙ ap (λ (l : List ℕ). l ++ drop (dealingSize S) t) dl
+        ∙ ap (λ (l : List ℕ). b ++ l) (next ∙ second-bytes tied refl ∙ ap (λ (l : List ℕ). df ++ l) (behind-second ∙ received-bytes
+        ∙ ap (λ (h : Head). received h (sentAt head 0 sent) (values2 (kindAt S tied second (sentAt head (S .n) sent))) (verdictsAt head sent)) same-head))))
 
 -- A FILE IS REFUSED OR HAS CONTENTS
 pub record HasContents (x : FileRead) : Type 0 where
@@ -161,16 +211,19 @@ contents-some C n e =
     pick-some (eqb (at (C .verdicts) (C .holder)) (verdictOf (judgement C))) (whole C) 13 n (λ z. omega (arith, z)) (λ z. record { contents = C; is = refl }) e
 
 pub file-some : (s : List ℕ) → numberOf (readFile s) ≡ 0 → HasContents (readFile s)
-unfolding readFile ofDealing ofReceived
+unfolding readFile ofDealing ofMapped ofReceived
 file-some s e =
     let S = setupAt s in
     let t = drop (setupSize S) s in
-    let h = headOf S (dealingAt t) in
-    let sent = drop (setupSize S + dealingSize S) s in
-    let C = contentsOf S (dealingAt t) (dealingG S t) (dealingH S t) (valuesAt (S .n) sent) (verdictsAt (S .n) sent) in
+    let x = dealingAt t in
+    let u = drop (firstByte S) s in
+    let h = headOf S x (hasMap u) in
+    let sent = drop (start S (hasMap u)) s in
+    let C = contentsOf S x (dealingG S t) (dealingH S t) (sentAt h 0 sent) (verdictsAt h sent) (kindAt S (hasMap u) u (sentAt h (S .n) sent)) in
     or-some (setupFault s) 0 (ofDealing S s)
-    (or-some (dealingFault S t) (setupSize S) (ofReceived S (dealingAt t) (dealingG S t) (dealingH S t) s)
-    (or-some (faultAt h sent (reached h sent)) _ (ofContents C (length s)) (contents-some C (length s)))) e
+    (or-some (dealingFault S t) (setupSize S) (ofMapped S x (dealingG S t) (dealingH S t) s)
+    (or-some (mappedFault S x u) (firstByte S) (ofReceived S x (dealingG S t) (dealingH S t) (hasMap u) s)
+    (or-some (faultAt h sent (reached h sent)) _ (ofContents C (length s)) (contents-some C (length s))))) e
 
 -- A REFUSAL'S BYTE
 or-inside : (k byte n : ℕ) (r : FileRead) → byte ≤ n → (k ≡ 0 → byteOf r ≤ n) → byteOf (orRefused k byte r) ≤ n
@@ -181,22 +234,34 @@ contents-inside : (C : Contents) (n : ℕ) → byteOf (ofContents C n) ≤ n
 unfolding ofContents
 contents-inside C n = picked (λ x. byteOf x ≤ n) (eqb (at (C .verdicts) (C .holder)) (verdictOf (judgement C))) (whole C) (refusedAt 13 n) (omega arith) (omega arith)
 
+-- the PV start inside the file or at its end
+start-inside : (S : Setup) (x : DealingRecord) (s : List ℕ) → Limits S → firstByte S ≤ length s → mappedFault S x (drop (firstByte S) s) ≡ 0
+    → start S (hasMap (drop (firstByte S) s)) ≤ length s
+start-inside S x s L f z = go (hasMap (drop (firstByte S) s)) refl
+  where
+    go : (b : Bool) → hasMap (drop (firstByte S) s) ≡ b → start S b ≤ length s
+    go true e = both-fit (firstByte S) (mappedSize S) s f (mapped-read S x (drop (firstByte S) s) L e z .long)
+    go false e = omega (arith, f)
+
 pub file-inside : (s : List ℕ) → byteOf (readFile s) ≤ length s
-unfolding readFile ofDealing ofReceived
+unfolding readFile ofDealing ofMapped ofReceived
 file-inside s =
     let S = setupAt s in
     let t = drop (setupSize S) s in
-    let h = headOf S (dealingAt t) in
-    let from = setupSize S + dealingSize S in
+    let x = dealingAt t in
+    let u = drop (firstByte S) s in
+    let h = headOf S x (hasMap u) in
+    let from = start S (hasMap u) in
     let sent = drop from s in
     let n = length s in
-    let C = contentsOf S (dealingAt t) (dealingG S t) (dealingH S t) (valuesAt (S .n) sent) (verdictsAt (S .n) sent) in
+    let C = contentsOf S x (dealingG S t) (dealingH S t) (sentAt h 0 sent) (verdictsAt h sent) (kindAt S (hasMap u) u (sentAt h (S .n) sent)) in
     or-inside (setupFault s) 0 n (ofDealing S s) (omega arith) (λ z.
     let U = setup-read s (setup-clear s z) in
-    or-inside (dealingFault S t) (setupSize S) n (ofReceived S (dealingAt t) (dealingG S t) (dealingH S t) s) (U .1) (λ y.
+    or-inside (dealingFault S t) (setupSize S) n (ofMapped S x (dealingG S t) (dealingH S t) s) (U .1) (λ y.
     let f = both-fit (setupSize S) (dealingSize S) s (U .1) (dealing-read S t (U .0 .limits) (deal-clear S t y) .3) in
-    or-inside (faultAt h sent (reached h sent)) (from + place (S .n) (reached h sent)) n (ofContents C n) (omega (arith, f, reached-inside h sent, length-drop from s))
-    (λ w. contents-inside C n)))
+    or-inside (mappedFault S x u) (firstByte S) n (ofReceived S x (dealingG S t) (dealingH S t) (hasMap u) s) f (λ v.
+    or-inside (faultAt h sent (reached h sent)) (from + place h (reached h sent)) n (ofContents C n)
+    (omega (arith, start-inside S x s (U .0 .limits) f v, reached-inside h sent, length-drop from s)) (λ w. contents-inside C n))))
 
 -- A RECORD THAT IS MISSING
 abbrev AtEnd : ℕ → FileRead → Type 0
@@ -223,6 +288,12 @@ no-dealing S t = go (eqb (length t) 0) refl (isSecond t)
     go false q true e = absurd (omega arith)
     go false q false e = absurd (never 11 (standingRules dealingLayout S t) (omega arith) tt e)
 
+-- a DF is never missing
+no-map-missing : (S : Setup) (x : DealingRecord) (t : List ℕ) → mappedFault S x t ≡ 11 → ⊥
+unfolding mappedFault
+no-map-missing S x t =
+    picked (λ k. k ≡ 11 → ⊥) (hasMap t) (refusal (mappedRules S x t)) 0 (never 11 (mappedRules S x t) (omega arith) tt) (λ z. omega (arith, z))
+
 contents-end : (C : Contents) (n : ℕ) → AtEnd n (ofContents C n)
 unfolding ofContents
 contents-end C n =
@@ -230,19 +301,22 @@ contents-end C n =
     (λ b e. absurd (not-whole 11 b C (sym e))) (λ b e. absurd (omega (arith, ap numberOf e)))
 
 pub missing : Missing
-unfolding readFile ofDealing ofReceived
+unfolding readFile ofDealing ofMapped ofReceived
 missing s =
     let S = setupAt s in
     let t = drop (setupSize S) s in
-    let h = headOf S (dealingAt t) in
-    let from = setupSize S + dealingSize S in
+    let x = dealingAt t in
+    let u = drop (firstByte S) s in
+    let h = headOf S x (hasMap u) in
+    let from = start S (hasMap u) in
     let sent = drop from s in
     let k = reached h sent in
     let n = length s in
-    let C = contentsOf S (dealingAt t) (dealingG S t) (dealingH S t) (valuesAt (S .n) sent) (verdictsAt (S .n) sent) in
+    let C = contentsOf S x (dealingG S t) (dealingH S t) (sentAt h 0 sent) (verdictsAt h sent) (kindAt S (hasMap u) u (sentAt h (S .n) sent)) in
     or-end (setupFault s) 0 n (ofDealing S s) (no-setup s) (λ z.
     let U = setup-read s (setup-clear s z) in
-    or-end (dealingFault S t) (setupSize S) n (ofReceived S (dealingAt t) (dealingG S t) (dealingH S t) s) (λ e. omega (arith, no-dealing S t e, U .1, length-drop (setupSize S) s)) (λ y.
+    or-end (dealingFault S t) (setupSize S) n (ofMapped S x (dealingG S t) (dealingH S t) s) (λ e. omega (arith, no-dealing S t e, U .1, length-drop (setupSize S) s)) (λ y.
     let f = both-fit (setupSize S) (dealingSize S) s (U .1) (dealing-read S t (U .0 .limits) (deal-clear S t y) .3) in
-    or-end (faultAt h sent k) (from + place (S .n) k) n (ofContents C n) (λ e. omega (arith, f, eleven-ends h sent k e, reached-inside h sent, length-drop from s))
-    (λ w. contents-end C n)))
+    or-end (mappedFault S x u) (firstByte S) n (ofReceived S x (dealingG S t) (dealingH S t) (hasMap u) s) (λ e. absurd (no-map-missing S x u e)) (λ v.
+    or-end (faultAt h sent k) (from + place h k) n (ofContents C n)
+    (λ e. omega (arith, start-inside S x s (U .0 .limits) f v, eleven-ends h sent k e, reached-inside h sent, length-drop from s)) (λ w. contents-end C n))))

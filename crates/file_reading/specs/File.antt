@@ -1,29 +1,31 @@
--- A holder's file read to its end (document 01, "In a file the first faulty record decides"; document 02, A2).
+-- A holder's file read to its end (document 01, "In a file the first faulty record decides"; document 02, A2 and A7).
 -- FileRead: a refusal with the byte where the faulty record starts, or the contents
 -- setupFault, dealingFault: the refusal of the first record, and of the second
--- headOf: what PV and VD are held against, from SU and DL as they were read
--- contentsOf: the contents from what stands in SU and DL and what was received
--- ofContents, ofReceived, ofDealing, readFile: what is read from the contents, from the file's PV and VD on, from its DL and its start on
+-- hasMap, mappedRules, mappedFault: whether the part behind DL begins with a DF, and its refusal, 0 where there is none
+-- firstByte, start: the byte behind DL, and the byte where the PV start
+-- headOf: what PV, PF and VD are held against, from SU, DL and DF as they were read
+-- kindAt, contentsOf: the contents from what stands in SU, DL and DF and what was received
+-- ofContents, ofReceived, ofMapped, ofDealing, readFile: what is read from the contents, from the file's PV on, from behind its DL, from its DL and its start on
 -- orRefused: a refusal, or what follows
 -- numberOf, byteOf: the refusal's number, 0 where there is none, and its byte
 -- eight, paramsOf, told: the contents as the code tells them
-use mathlib.Core.Bool.{not, _&&_}
-use mathlib.Core.List.{List, _++_}
+use mathlib.Core.Bool.{Bool, not, _&&_}
+use mathlib.Core.List.{List, [], _∷_, _++_}
 use Prim.Native.Nat.{ℕ, zero, suc, _+_, _-_}
 use lib.Dec.{eqb, ltb}
 use lib.ListN.{length, drop, replicate}
 use Rattle.base.specs.Choice.{pick}
-use Rattle.base.specs.Rules.{refusal}
+use Rattle.base.specs.Rules.{Rule, _when_, refusal}
 use Rattle.field.specs.Dot.{at}
 use Rattle.scheme.specs.declared.Params.{Params}
 use Rattle.scheme.specs.Setup.{Setup}
 use Rattle.record_layouts.specs.Words.{wordAt}
 use Rattle.record_layouts.specs.declared.DealingRecord.{DealingRecord}
-use Rattle.record_layouts.specs.Records.{markSU, setupAt, setupSize, dealingSize, dealingAt, dealingG, dealingH, readSetupRules, standingRules, dealingLayout}
+use Rattle.record_layouts.specs.Records.{markSU, markDF, setupAt, setupSize, dealingSize, mappedSize, dealingAt, dealingG, dealingH, mappedPhi, readSetupRules, listsRules, standingRules, dealingLayout, mappedLayout}
 use Rattle.file_records.specs.declared.Head.{Head}
-use Rattle.file_records.specs.Received.{place, faultAt, reached, valuesAt, verdictsAt}
+use Rattle.file_records.specs.Received.{place, faultAt, reached, sentAt, verdictsAt}
 use Rattle.file_reading.specs.declared.Told.{Told}
-use Rattle.file_reading.specs.Contents.{Contents, judgement, verdictOf, fate, keptShares}
+use Rattle.file_reading.specs.Contents.{Kind, plain, mapped, Contents, isMapped, judgement, verdictOf, fate, keptShares, keptMapped}
 
 pub data FileRead : Type 0 where
   refusedAt : (number byte : ℕ) → FileRead
@@ -40,12 +42,35 @@ dealingFault S t =
     pick (eqb (length t) 0) 11
     (pick (not (ltb (length t) 2) && eqb (wordAt t 0) markSU) 10 (refusal (standingRules dealingLayout S t)))
 
-abbrev pub headOf : Setup → DealingRecord → Head
-headOf S x = record { p = S .p; n = S .n; dealing = x .dealing; holder = x .holder }
+-- of the file from the byte on where DL ends: "DF may come right after DL only"
+unfoldable pub hasMap : List ℕ → Bool
+hasMap t = not (ltb (length t) 2) && eqb (wordAt t 0) markDF
 
-abbrev pub contentsOf : Setup → DealingRecord → (g h values verdicts : List ℕ) → Contents
-contentsOf S x g h values verdicts =
-    record { setup = S; dealing = x .dealing; holder = x .holder; g = g; h = h; values = values; verdicts = verdicts }
+-- "a holder other than DL's gets 5"; "9: dealing number 0 outside SH, or not the file's" (the file's is not 0)
+abbrev pub mappedRules : Setup → DealingRecord → List ℕ → List Rule
+mappedRules S x t =
+    listsRules mappedLayout S t
+    ++ ((5 when not (eqb (dealingAt t .holder) (x .holder))) ∷ (9 when not (eqb (dealingAt t .dealing) (x .dealing))) ∷ [])
+
+unfoldable pub mappedFault : Setup → DealingRecord → List ℕ → ℕ
+mappedFault S x t = pick (hasMap t) (refusal (mappedRules S x t)) 0
+
+abbrev pub firstByte : Setup → ℕ
+firstByte S = setupSize S + dealingSize S
+
+abbrev pub start : Setup → Bool → ℕ
+start S b = firstByte S + pick b (mappedSize S) 0
+
+abbrev pub headOf : Setup → DealingRecord → Bool → Head
+headOf S x b = record { p = S .p; n = S .n; dealing = x .dealing; holder = x .holder; mapped = b }
+
+-- t is the file from the byte on where DL ends
+abbrev pub kindAt : Setup → Bool → (t values2 : List ℕ) → Kind
+kindAt S b t values2 = pick b (mapped (record { g = dealingG S t; h = dealingH S t; phi = mappedPhi S t; values = values2 })) plain
+
+abbrev pub contentsOf : Setup → DealingRecord → (g h values verdicts : List ℕ) → Kind → Contents
+contentsOf S x g h values verdicts kind =
+    record { setup = S; dealing = x .dealing; holder = x .holder; g = g; h = h; values = values; verdicts = verdicts; kind = kind }
 
 -- "13: own VD differs from own judgement"; "11 and 13 come last, in that order"; the file has `len` bytes
 unfoldable pub ofContents : Contents → ℕ → FileRead
@@ -57,17 +82,24 @@ orRefused zero byte r = r
 orRefused (suc k) byte r = refusedAt (suc k) byte
 
 -- "B the byte where the record starts, or the file's length for 11 and 13": where the file ends and a record is missing, its length is the byte where that would start
-unfoldable pub ofReceived : Setup → DealingRecord → List ℕ → List ℕ → List ℕ → FileRead
-ofReceived S x g h s =
-    let from = setupSize S + dealingSize S in
+unfoldable pub ofReceived : Setup → DealingRecord → (g h : List ℕ) → Bool → List ℕ → FileRead
+ofReceived S x g h b s =
+    let from = start S b in
+    let head = headOf S x b in
     let t = drop from s in
-    let k = reached (headOf S x) t in
-    orRefused (faultAt (headOf S x) t k) (from + place (S .n) k) (ofContents (contentsOf S x g h (valuesAt (S .n) t) (verdictsAt (S .n) t)) (length s))
+    let k = reached head t in
+    orRefused (faultAt head t k) (from + place head k)
+    (ofContents (contentsOf S x g h (sentAt head 0 t) (verdictsAt head t) (kindAt S b (drop (firstByte S) s) (sentAt head (S .n) t))) (length s))
+
+unfoldable pub ofMapped : Setup → DealingRecord → List ℕ → List ℕ → List ℕ → FileRead
+ofMapped S x g h s =
+    let t = drop (firstByte S) s in
+    orRefused (mappedFault S x t) (firstByte S) (ofReceived S x g h (hasMap t) s)
 
 unfoldable pub ofDealing : Setup → List ℕ → FileRead
 ofDealing S s =
     let t = drop (setupSize S) s in
-    orRefused (dealingFault S t) (setupSize S) (ofReceived S (dealingAt t) (dealingG S t) (dealingH S t) s)
+    orRefused (dealingFault S t) (setupSize S) (ofMapped S (dealingAt t) (dealingG S t) (dealingH S t) s)
 
 unfoldable pub readFile : List ℕ → FileRead
 readFile s = orRefused (setupFault s) 0 (ofDealing (setupAt s) s)
@@ -95,4 +127,6 @@ told C =
       holder = C .holder;
       outcome = record { judgement = judgement C; fate = fate C };
       shares = eight (keptShares C);
+      mapped = isMapped (C .kind);
+      shares2 = eight (keptMapped C);
     }

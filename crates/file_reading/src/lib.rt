@@ -1,9 +1,13 @@
 // A holder's file read from a lent slice: a refusal with the byte where the faulty record starts, or what the file tells.
 ghost use mathlib.Core.Path.{_≡_};
+ghost use mathlib.Core.Bool.{true, false};
+ghost use mathlib.Core.List.{[]};
 ghost use Prim.Native.Nat.{_≤_};
 ghost use lib.ListN.{length};
-ghost use Rattle.file_reading.specs.File.{readFile};
-ghost use Rattle.file_reading.specs.Inner.{ReadsFront, ReadsParts, Tells};
+ghost use Rattle.base.specs.Rules.{refusal};
+ghost use Rattle.scheme.specs.Setup.{setupOf};
+ghost use Rattle.file_reading.specs.File.{mappedRules, readFile};
+ghost use Rattle.file_reading.specs.Inner.{FrontIn, ReadsFront, ReadsMap, contentsRead, PartsIn, ReadsParts, JudgedIn, Tells};
 use file_records::Head;
 use record_layouts::DEALING_HEAD;
 use record_layouts::DealingRecord;
@@ -13,13 +17,16 @@ use scheme::Judgement;
 use scheme::Outcome;
 use scheme::Params;
 
-// What a file tells that was read to its end: the shares stand at the start, and zeros behind them; none where the dealing was aborted.
+// What a file tells that was read to its end: the shares stand at the start, and zeros behind them; none where the dealing was aborted. With a DF, the shares of the
+// second dealing beside them.
 pub struct Told {
     pub setup: Params,
     pub dealing: u16,
     pub holder: u16,
     pub outcome: Outcome,
     pub shares: [u16; 8],
+    pub mapped: bool,
+    pub shares2: [u16; 8],
 }
 
 // A refusal and its byte, or 0 and what the file tells.
@@ -37,14 +44,30 @@ pub struct Front {
     pub record: DealingRecord,
 }
 
-// The same of all records, with what the n holders sent.
+// Whether a DF comes behind them: a refusal and its byte, or 0 and the byte where the PV start.
+pub struct SecondFront {
+    pub refusal: u16,
+    pub byte: usize,
+    pub mapped: bool,
+}
+
+// The numbers of all records, with what the n holders sent.
 pub struct Parts {
     pub refusal: u16,
     pub byte: usize,
     pub setup: Params,
     pub record: DealingRecord,
+    pub mapped: bool,
     pub values: [u16; 32],
+    pub values2: [u16; 32],
     pub verdicts: [u16; 32],
+}
+
+// The holder's own judgement, and the shares that stand in DL and DF.
+pub struct Own {
+    pub judgement: Judgement,
+    pub shares: [u16; 8],
+    pub shares2: [u16; 8],
 }
 
 // What a refused file tells.
@@ -63,6 +86,8 @@ fn nothing() -> Told {
             fate: Fate::Aborted(0),
         },
         shares: [0; 8],
+        mapped: false,
+        shares2: [0; 8],
     }
 }
 
@@ -127,6 +152,46 @@ fn read_front(file: &[u8]) -> Front
     front
 }
 
+// What is faulty in a DF behind a DL with the numbers x.
+fn second_fault(s: Params, x: DealingRecord, t: &[u8]) -> u16
+    ensures { λ r. ⌜ r ≡ refusal (mappedRules (setupOf s []) x (now (t .entry))) ⌝ }
+{
+    let y = record_layouts::dealing_at(t);
+    let a = record_layouts::mapped_lists_fault(s, t);
+    let b = base::or_when(a, 5, y.holder != x.holder);
+    base::or_when(b, 9, y.dealing != x.dealing)
+}
+
+// A DF behind SU and DL, if there is one.
+fn read_second(file: &[u8], front: Front) -> SecondFront
+    requires { ⌜ FrontIn (now file) front ⌝ }
+    ensures { λ r. ⌜ ReadsMap (now (file .entry)) r ⌝ }
+{
+    let at = front.byte;
+    let s = front.setup;
+    let t = &file[at..];
+    let mark = record_layouts::word(t, 0);
+    let mut second = SecondFront {
+        refusal: 0,
+        byte: at,
+        mapped: false,
+    };
+    if t.len() < 2 {
+        return second;
+    }
+    if mark != record_layouts::MARK_DF {
+        return second;
+    }
+    second.mapped = true;
+    let x = front.record;
+    second.refusal = second_fault(s, x, t);
+    if second.refusal != 0 {
+        return second;
+    }
+    second.byte = at + DEALING_HEAD + 4 * s.dim() + 2 * record_layouts::map_len(s);
+    second
+}
+
 // All records, to the file's end.
 fn read_parts(file: &[u8]) -> Parts
     requires { ⌜ length (now file) ≤ 4096 ⌝ }
@@ -140,10 +205,20 @@ fn read_parts(file: &[u8]) -> Parts
         byte: front.byte,
         setup: s,
         record: x,
+        mapped: false,
         values: [0; 32],
+        values2: [0; 32],
         verdicts: [0; 32],
     };
     if front.refusal != 0 {
+        return parts;
+    }
+    let second = read_second(file, front);
+    let from = second.byte;
+    parts.refusal = second.refusal;
+    parts.byte = from;
+    parts.mapped = second.mapped;
+    if second.refusal != 0 {
         return parts;
     }
     let head = Head {
@@ -151,16 +226,90 @@ fn read_parts(file: &[u8]) -> Parts
         n: s.n,
         dealing: x.dealing,
         holder: x.holder,
+        mapped: second.mapped,
     };
-    let from = front.byte;
     let sent = file_records::read_received(&file[from..], head);
     let values = sent.values;
+    let values2 = sent.values2;
     let verdicts = sent.verdicts;
     parts.refusal = sent.refusal;
     parts.byte = from + sent.byte;
     parts.values = values;
+    parts.values2 = values2;
     parts.verdicts = verdicts;
     parts
+}
+
+// The own judgement where there is no DF.
+fn judge_plain(file: &[u8], parts: Parts) -> Own
+    requires { ⌜ PartsIn (now file) parts × (parts .mapped ≡ false) ⌝ }
+    ensures { λ r. ⌜ JudgedIn (contentsRead (now (file .entry)) parts) r ⌝ }
+{
+    let s = parts.setup;
+    let n = s.n as usize;
+    let d = (s.l as usize) + (s.e as usize);
+    let len = n * d;
+    let at = SETUP_HEAD + 2 * len;
+    let matrix = file_records::read_matrix(s, file);
+    let lists = file_records::read_part(s, &file[at..]);
+    let h = lists.h;
+    let values = parts.values;
+    let judgement = judging::judgement(s, &matrix[..len], &h[..d], &values[..n]);
+    let shares = lists.shares;
+    Own {
+        judgement,
+        shares,
+        shares2: [0; 8],
+    }
+}
+
+// The own judgement where there is one.
+fn judge_mapped(file: &[u8], parts: Parts) -> Own
+    requires { ⌜ PartsIn (now file) parts × (parts .mapped ≡ true) ⌝ }
+    ensures { λ r. ⌜ JudgedIn (contentsRead (now (file .entry)) parts) r ⌝ }
+{
+    let s = parts.setup;
+    let n = s.n as usize;
+    let d = (s.l as usize) + (s.e as usize);
+    let len = n * d;
+    let at = SETUP_HEAD + 2 * len;
+    let behind = at + DEALING_HEAD + 4 * d;
+    let square = (s.l as usize) * (s.l as usize);
+    let matrix = file_records::read_matrix(s, file);
+    let lists = file_records::read_part(s, &file[at..]);
+    let second = file_records::read_part(s, &file[behind..]);
+    let phi = file_records::read_map(s, &file[behind..]);
+    let h = lists.h;
+    let h2 = second.h;
+    let values = parts.values;
+    let values2 = parts.values2;
+    let judgement = judging::judgement_mapped(
+        s,
+        &matrix[..len],
+        &h[..d],
+        &values[..n],
+        &phi[..square],
+        &h2[..d],
+        &values2[..n],
+    );
+    let shares = lists.shares;
+    let shares2 = second.shares;
+    Own {
+        judgement,
+        shares,
+        shares2,
+    }
+}
+
+fn judge_parts(file: &[u8], parts: Parts) -> Own
+    requires { ⌜ PartsIn (now file) parts ⌝ }
+    ensures { λ r. ⌜ JudgedIn (contentsRead (now (file .entry)) parts) r ⌝ }
+{
+    let mapped = parts.mapped;
+    if mapped {
+        return judge_mapped(file, parts);
+    }
+    judge_plain(file, parts)
 }
 
 // A file of at most 4,096 bytes, read to its end or to the first record that is refused; at its end the own verdict is held against the own judgement.
@@ -178,18 +327,15 @@ pub fn read_file(file: &[u8]) -> Reading
         };
     }
     let s = parts.setup;
-    let lists = file_records::read_lists(s, file);
     let n = s.n as usize;
-    let d = (s.l as usize) + (s.e as usize);
     let verdicts = parts.verdicts;
     let fate = judging::fate(s, &verdicts[..n]);
-    let values = parts.values;
-    let matrix = lists.matrix;
-    let h = lists.h;
-    let judgement = judging::judgement(s, &matrix[..n * d], &h[..d], &values[..n]);
+    let judged = judge_parts(file, parts);
+    let judgement = judged.judgement;
     let own = match judgement {
         Judgement::Accept => 1,
         Judgement::Reject(_) => 0,
+        Judgement::RejectMap => 0,
     };
     let x = parts.record;
     let i = x.holder as usize;
@@ -200,16 +346,23 @@ pub fn read_file(file: &[u8]) -> Reading
             told,
         };
     }
-    let shares = match fate {
-        Fate::Kept => lists.shares,
-        Fate::Aborted(_) => [0; 8],
-    };
+    let mut shares = [0u16; 8];
+    let mut shares2 = [0u16; 8];
+    match fate {
+        Fate::Kept => {
+            shares = judged.shares;
+            shares2 = judged.shares2;
+        }
+        Fate::Aborted(_) => {}
+    }
     told = Told {
         setup: s,
         dealing: x.dealing,
         holder: x.holder,
         outcome: Outcome { judgement, fate },
         shares,
+        mapped: parts.mapped,
+        shares2,
     };
     Reading {
         refusal: 0,

@@ -146,6 +146,14 @@ pub verdicts-size : (h : Head) (heard : List ℕ) → length (verdicts h heard) 
 unfolding tab
 verdicts-size h heard = length-joined 8 (λ j. bytes (verdictWords (said h heard j))) (λ j. length-bytes (verdictWords (said h heard j))) (h .n) 0
 
+-- without a DF the values of PF play no part
+pub received-same : (h : Head) (values v w heard : List ℕ) → (h .mapped ≡ true → v ≡ w) → received h values v heard ≡ received h values w heard
+received-same h values v w heard e = ap (λ (l : List ℕ). pairs markPV h values ++ (l ++ verdicts h heard)) (go (h .mapped) refl)
+  where
+    go : (b : Bool) → h .mapped ≡ b → pick b (pairs markPF h v) [] ≡ pick b (pairs markPF h w) []
+    go true m = ap (pairs markPF h) (e m)
+    go false m = refl
+
 -- of a list of PV or PF, the record from holder j, and of the VD that of holder j
 pair-in : (mark : ℕ) (h : Head) (values rest : List ℕ) (j : ℕ) → j < h .n
     → (u : List ℕ) × (drop (10 * j) (pairs mark h values ++ rest) ≡ bytes (pairWords mark (sent h values j)) ++ u)

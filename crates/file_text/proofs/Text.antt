@@ -1,4 +1,4 @@
--- Laws of text in a buffer: one text after another, a number's digits, the lines of the shares, and from places in a buffer to its first bytes.
+-- Laws of text in a buffer: one text after another, a number's digits, the lines of the columns, and from places in a buffer to its first bytes.
 use mathlib.Core.Path.{_≡_, refl, sym, ap, _∙_}
 use mathlib.Core.List.{List, [], _∷_, _++_}
 use Prim.Native.Nat.{ℕ, zero, suc, _+_, _-_, _^_, _≤_, _<_}
@@ -10,7 +10,7 @@ use lib.ListN.{length, getD, drop, set, length-append, drop-of-length-le}
 use lib.Seq.{sets, sets-eq, length-sets, drop-cons, take-at, drop-at}
 use borrow.Author.Tests.{lt-ltb, le-ltb}
 use Rattle.file_text.specs.Text.{Wrote, Printed}
-use Rattle.file_text.specs.Lines.{width, shareLine, shareLines}
+use Rattle.file_text.specs.Lines.{width, columnLine, columnLines}
 
 sets-append : (l : List ℕ) (i : ℕ) (a b : List ℕ) → sets (sets l i a) (i + length a) b ≡ sets l i (a ++ b)
 sets-append l i [] b = rw add-zero
@@ -55,14 +55,14 @@ fewest x (suc (suc (suc (suc (suc (suc j)))))) b p q r =
     absurd (omega (arith, le-trans z g))
 
 -- the lines of the columns left, one at a time
-pub shareLines-step : (vs : List ℕ) (b : ℕ) → b < length vs
-    → shareLines b (drop b vs) ≡ shareLine b (getD vs b 0) ++ shareLines (b + 1) (drop (b + 1) vs)
-unfolding shareLines
-shareLines-step vs b h = rw (add-one b, drop-cons vs b 0 h)
+pub columnLines-step : (word vs : List ℕ) (b : ℕ) → b < length vs
+    → columnLines word b (drop b vs) ≡ columnLine word b (getD vs b 0) ++ columnLines word (b + 1) (drop (b + 1) vs)
+unfolding columnLines
+columnLines-step word vs b h = rw (add-one b, drop-cons vs b 0 h)
 
-pub shareLines-end : (vs : List ℕ) (b : ℕ) → length vs ≤ b → shareLines b (drop b vs) ≡ []
-unfolding shareLines
-shareLines-end vs b h = rw (drop-of-length-le vs h)
+pub columnLines-end : (word vs : List ℕ) (b : ℕ) → length vs ≤ b → columnLines word b (drop b vs) ≡ []
+unfolding columnLines
+columnLines-end word vs b h = rw (drop-of-length-le vs h)
 
 -- written from the start on
 pub first-bytes : {l m t : List ℕ} {n r : ℕ} → Wrote l 0 t n m r → n ≤ length l → Printed l t m r

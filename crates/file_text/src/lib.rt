@@ -1,10 +1,10 @@
 // The text that the holder program prints, written into a lent buffer: words and numbers, then lines, then the two texts that callers ask for.
 ghost use mathlib.Core.List.{[]};
-ghost use Prim.Native.Nat.{_+_, _≤_};
+ghost use Prim.Native.Nat.{_+_, _*_, _≤_};
 ghost use lib.ListN.{length};
 ghost use Rattle.scheme.specs.Setup.{setupOf};
 ghost use Rattle.file_text.specs.Text.{Wrote, Printed};
-ghost use Rattle.file_text.specs.Lines.{dec, item, lastItem, line, setupLine, verdictLine, outcomeLine, shareLines, keptLines, printed, refusedText};
+ghost use Rattle.file_text.specs.Lines.{dec, item, lastItem, line, setupLine, verdictLine, outcomeLine, columnLines, keptLines, printed, refusedText};
 use scheme::Fate;
 use scheme::Judgement;
 use scheme::Outcome;
@@ -78,6 +78,7 @@ fn verdict_line(out: &mut [u8], at: usize, judgement: Judgement) -> usize
     match judgement {
         Judgement::Accept => put_text(out, at, b"verdict accept\n"),
         Judgement::Reject(j) => put_last(out, at, b"verdict reject ", j),
+        Judgement::RejectMap => put_text(out, at, b"verdict reject map\n"),
     }
 }
 
@@ -91,44 +92,48 @@ fn outcome_line(out: &mut [u8], at: usize, fate: Fate) -> usize
     }
 }
 
-// One line per column.
-fn share_lines(out: &mut [u8], at: usize, shares: &[u16]) -> usize
-    requires { ⌜ (length (now shares) ≤ 8) × (at + 144 ≤ length (now out)) ⌝ }
-    ensures { λ r. ⌜ Wrote (now (out .entry)) at (shareLines 0 (now (shares .entry))) 144 (now (out .exit)) r ⌝ }
+// One line per column, each with the word.
+fn column_lines(out: &mut [u8], at: usize, word: &[u8], values: &[u16]) -> usize
+    requires { ⌜ (length (now values) ≤ 8) × (at + 8 * (length (now word) + 12) ≤ length (now out)) ⌝ }
+    ensures { λ r. ⌜ Wrote (now (out .entry)) at (columnLines (now (word .entry)) 0 (now (values .entry))) (8 * (length (now (word .entry)) + 12)) (now (out .exit)) r ⌝ }
 {
-    let n = shares.len();
+    let n = values.len();
     let mut column = 0;
     let mut k = at;
     while column < n {
-        k = put_line(out, k, b"share ", column as u16, b" ", shares[column]);
+        k = put_line(out, k, word, column as u16, b" ", values[column]);
         column += 1;
     }
     k
 }
 
-// Those lines, or none if aborted.
-fn kept_lines(out: &mut [u8], at: usize, fate: Fate, shares: &[u16]) -> usize
-    requires { ⌜ (length (now shares) ≤ 8) × (at + 144 ≤ length (now out)) ⌝ }
-    ensures { λ r. ⌜ Wrote (now (out .entry)) at (keptLines fate (now (shares .entry))) 144 (now (out .exit)) r ⌝ }
+// The lines of the shares and of the mapped shares, or none if aborted.
+fn kept_lines(out: &mut [u8], at: usize, fate: Fate, shares: &[u16], mapped: &[u16]) -> usize
+    requires { ⌜ (length (now shares) ≤ 8) × (length (now mapped) ≤ 8) × (at + 296 ≤ length (now out)) ⌝ }
+    ensures { λ r. ⌜ Wrote (now (out .entry)) at (keptLines fate (now (shares .entry)) (now (mapped .entry))) 296 (now (out .exit)) r ⌝ }
 {
     match fate {
-        Fate::Kept => share_lines(out, at, shares),
+        Fate::Kept => {
+            let k = column_lines(out, at, b"share ", shares);
+            column_lines(out, k, b"mapped ", mapped)
+        }
         Fate::Aborted(_) => at,
     }
 }
 
 // THE TWO TEXTS
-// What is printed of a file that was read to its end, at most 244 bytes.
+// What is printed of a file that was read to its end, at most 396 bytes; a file without a second dealing has no mapped shares.
 pub fn print_told(
     s: Params,
     dealing: u16,
     holder: u16,
     outcome: Outcome,
     shares: &[u16],
+    mapped: &[u16],
     out: &mut [u8],
 ) -> usize
-    requires { ⌜ (length (now shares) ≤ 8) × (256 ≤ length (now out)) ⌝ }
-    ensures { λ r. ⌜ Printed (now (out .entry)) (printed (setupOf s []) dealing holder (outcome .judgement) (outcome .fate) (now (shares .entry))) (now (out .exit)) r ⌝ }
+    requires { ⌜ (length (now shares) ≤ 8) × (length (now mapped) ≤ 8) × (512 ≤ length (now out)) ⌝ }
+    ensures { λ r. ⌜ Printed (now (out .entry)) (printed (setupOf s []) dealing holder (outcome .judgement) (outcome .fate) (now (shares .entry)) (now (mapped .entry))) (now (out .exit)) r ⌝ }
 {
     let judgement = outcome.judgement;
     let fate = outcome.fate;
@@ -136,12 +141,12 @@ pub fn print_told(
     let b = put_line(out, a, b"dealing ", dealing, b" holder ", holder);
     let c = verdict_line(out, b, judgement);
     let d = outcome_line(out, c, fate);
-    kept_lines(out, d, fate, shares)
+    kept_lines(out, d, fate, shares, mapped)
 }
 
 // What is printed of a refused file.
 pub fn print_refusal(number: u16, at: u16, out: &mut [u8]) -> usize
-    requires { ⌜ 256 ≤ length (now out) ⌝ }
+    requires { ⌜ 512 ≤ length (now out) ⌝ }
     ensures { λ r. ⌜ Printed (now (out .entry)) (refusedText number at) (now (out .exit)) r ⌝ }
 {
     put_line(out, 0, b"refused ", number, b" at ", at)

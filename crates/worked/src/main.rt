@@ -73,6 +73,7 @@ fn judgement(answer: Judgement) {
             number(j);
             say(b"\n");
         },
+        Judgement::RejectMap => say(b" reject map\n"),
     }
 }
 

@@ -1,4 +1,4 @@
--- The lines stand one after the other from the start of the buffer, and take at most 244 bytes of it.
+-- The lines stand one after the other from the start of the buffer, and take at most 396 bytes of it.
 use native.Mathlib.Omega.{arith}
 use borrow.Author.Needs.{needs}
 use Rattle.file_text.specs.Lines.{dealingLine}
@@ -40,7 +40,8 @@ returns c =
     let setup = dealing .before .before .before .before .before .before in
     let two = both (setup .setup-line .ensures) (dealing .put-line .ensures) in
     let four = both (both two (verdict .verdict-line .ensures)) (outcome .outcome-line .ensures) in
-    first-bytes (both four (kept .kept-lines .ensures)) (omega arith)
+    let start = setup .before .before .before .before .before in
+    first-bytes (both four (kept .kept-lines .ensures)) (omega (arith, start .pre .2))
 
 pub print-told-spec : {M : Type 1} → statement M
 print-told-spec =

@@ -24,6 +24,15 @@ slice-aggregate-put-last c = search needs
 put-last-requires : tie.Need-put-last-requires
 put-last-requires c κs = search needs
 
+enum-told-2 : tie.Need-enum-told-2
+enum-told-2 c = search needs
+
+slice-aggregate-put-text-2 : tie.Need-slice-aggregate-put-text-2
+slice-aggregate-put-text-2 c = search needs
+
+put-text-requires-2 : tie.Need-put-text-requires-2
+put-text-requires-2 c κs = search needs
+
 same-length : tie.Need-same-length
 same-length c = search needs
 
@@ -44,6 +53,16 @@ returns-2 c =
     let case = text .before .before .before .before in
     rw (case .judgement .given .1) (text .put-last .ensures)
 
+same-length-3 : tie.Need-same-length-3
+same-length-3 c = search needs
+
+returns-3 : tie.Need-returns-3
+unfolding verdictLine
+returns-3 c =
+    let text = c .before .before in
+    let case = text .before .before .before in
+    rw (case .enum-told2 .given .1) (more (text .put-text2 .ensures) (omega arith))
+
 pub verdict-line-spec : {M : Type 1} → statement M
 verdict-line-spec =
     tie.close
@@ -54,7 +73,12 @@ verdict-line-spec =
     enum-known-judgement
     slice-aggregate-put-last
     put-last-requires
+    enum-told-2
+    slice-aggregate-put-text-2
+    put-text-requires-2
     same-length
     returns
     same-length-2
-    returns-2)
+    returns-2
+    same-length-3
+    returns-3)
