@@ -16,21 +16,21 @@ enum { TURN = 16, CALLS = 256, ROUNDS = 161 };
 #define SHIFTED(x) __asm__(".text\n.skip " TEXT(x) ", 0x90")
 SHIFTED(SHIFT);
 
-/* The library before the change has the same functions under other names; it judges a set without giving the row steps. */
+/* The library before the change has the same functions under other names. */
 __typeof__(mavdrusek_deal) before_mavdrusek_deal;
 __typeof__(mavdrusek_deal_all) before_mavdrusek_deal_all;
 __typeof__(mavdrusek_deal_key) before_mavdrusek_deal_key;
 __typeof__(mavdrusek_determines) before_mavdrusek_determines;
 __typeof__(mavdrusek_private) before_mavdrusek_private;
 __typeof__(mavdrusek_open) before_mavdrusek_open;
-uint16_t before_mavdrusek_judge_set(uint16_t p, uint16_t l, uint16_t e, uint16_t n, const uint16_t *matrix, size_t matrix_len, uint32_t set,
-                                    uint16_t position, uint16_t *out, size_t out_len, uint16_t *kind);
+__typeof__(mavdrusek_judge_set) before_mavdrusek_judge_set;
 static __typeof__(mavdrusek_deal) *const deal[] = {before_mavdrusek_deal, mavdrusek_deal};
 static __typeof__(mavdrusek_deal_all) *const deal_all[] = {before_mavdrusek_deal_all, mavdrusek_deal_all};
 static __typeof__(mavdrusek_deal_key) *const deal_key[] = {before_mavdrusek_deal_key, mavdrusek_deal_key};
 static __typeof__(mavdrusek_determines) *const determines[] = {before_mavdrusek_determines, mavdrusek_determines};
 static __typeof__(mavdrusek_private) *const private[] = {before_mavdrusek_private, mavdrusek_private};
 static __typeof__(mavdrusek_open) *const open_set[] = {before_mavdrusek_open, mavdrusek_open};
+static __typeof__(mavdrusek_judge_set) *const judge_set[] = {before_mavdrusek_judge_set, mavdrusek_judge_set};
 
 static uint16_t p, l, e, n, d;
 static uint16_t matrix[TURN][512], secrets[TURN][64], entries[TURN][256], over[TURN][256], gs[2][512], hs[2][512];
@@ -59,10 +59,7 @@ static uint16_t key(int which, int t)
 /* The calls on sets. What they write is looked at where the parts are: buffers in gs, and in hs what else they give. */
 static uint16_t judge(int which, int t)
 {
-    uint16_t position = (uint16_t)(t % l), steps;
-    if (which)
-        return mavdrusek_judge_set(p, l, e, n, matrix[t], (size_t)n * d, sets[t], position, gs[1], 32, hs[1], &steps);
-    return before_mavdrusek_judge_set(p, l, e, n, matrix[t], (size_t)n * d, sets[t], position, gs[0], 32, hs[0]);
+    return judge_set[which](p, l, e, n, matrix[t], (size_t)n * d, sets[t], (uint16_t)(t % l), gs[which], 32, hs[which], hs[which] + 1);
 }
 
 static uint16_t is_determining(int which, int t)

@@ -35,7 +35,10 @@ fn main() {
             println!("p {p}, l {l}, e {e}, n {n}");
             let w = World::new(p, l, e, n);
             calls::calls(&mut t, &w);
+            calls::mapped(&mut t, &w);
             records::records(&mut t, &w);
+            records::mapped(&mut t, &w);
+            records::files(&mut t, &w);
         }
         println!("board keys (p 257, l 4, e 3, n 16)");
         calls::keys(&mut t);

@@ -3,7 +3,7 @@
 use crate::inputs::*;
 use crate::measure::*;
 use crate::{ours, raw, TURN};
-use reference::Answer;
+use reference::{Answer, Second};
 use std::hint::black_box;
 
 pub fn field(t: &mut Table) {
@@ -236,6 +236,74 @@ pub fn calls(t: &mut Table, w: &World) {
             give(look, || of(&r, &[]), r.values[0])
         },
     );
+}
+
+/// Two dealings tied by a map.
+pub fn mapped(t: &mut Table, w: &World) {
+    let s = w.s;
+    let (d, n) = (s.d(), s.n as usize);
+    let name = |call: &str| format!("{call} p {}", s.p);
+    let holder = |k: usize| k * 7 % n;
+    let parts = |size: usize| [vec![0u16; size], vec![0; size], vec![0; size], vec![0; size]];
+    let (mut a, mut b) = (parts(d), parts(d));
+    t.line(
+        &name("deal_mapped"),
+        |k, look| {
+            let r = ours::deal_mapped(s, w.m(k), w.deals[k].mapped(), holder(k) as u16, a.each_mut().map(|x| &mut x[..]));
+            give(look, || digest(r, &a.concat()), r)
+        },
+        |k, look| {
+            let r = reference::deal_mapped(s, w.m(k), w.deals[k].mapped(), holder(k) as u16, b.each_mut().map(|x| &mut x[..]));
+            give(look, || of(&r, &b.concat()), r.number)
+        },
+    );
+    let (mut a, mut b) = (parts(n * d), parts(n * d));
+    t.line(
+        &name("deal_mapped_all"),
+        |k, look| {
+            let r = ours::deal_mapped_all(s, w.m(k), w.deals[k].mapped(), a.each_mut().map(|x| &mut x[..]));
+            give(look, || digest(r, &a.concat()), r)
+        },
+        |k, look| {
+            let r = reference::deal_mapped_all(s, w.m(k), w.deals[k].mapped(), b.each_mut().map(|x| &mut x[..]));
+            give(look, || of(&r, &b.concat()), r.number)
+        },
+    );
+    let mut too_high: Vec<Vec<u16>> = w.deals.iter().map(|x| x.twin.random.clone()).collect();
+    too_high.iter_mut().for_each(|random| *random.last_mut().unwrap() = s.p);
+    let from = |k: usize| reference::Mapped { random2: &too_high[k], ..w.deals[k].mapped() };
+    t.line(
+        &name("deal_mapped_all, refused 4"),
+        |k, _| ours::deal_mapped_all(s, w.m(k), from(k), a.each_mut().map(|x| &mut x[..])) as u64,
+        |k, _| reference::deal_mapped_all(s, w.m(k), from(k), b.each_mut().map(|x| &mut x[..])).number as u64,
+    );
+
+    // One value of the second dealing differs; or the map is another one.
+    let mut wrong: Vec<Vec<u16>> = (0..TURN).map(|k| w.second(k, holder(k)).values.to_vec()).collect();
+    for (k, values) in wrong.iter_mut().enumerate() {
+        values[k * 5 % n] = (values[k * 5 % n] + 1) % s.p;
+    }
+    let mut another: Vec<Vec<u16>> = w.deals.iter().map(|x| x.twin.phi.clone()).collect();
+    another.iter_mut().for_each(|phi| phi[0] = (phi[0] + 1) % s.p);
+    let judged = |case: usize, k: usize| {
+        let x = w.second(k, holder(k));
+        [x, Second { values: &wrong[k], ..x }, Second { phi: &another[k], ..x }][case]
+    };
+    for (case, call) in ["judge_mapped, accept", "judge_mapped, reject", "judge_mapped, another map"].iter().enumerate() {
+        let (mut verdict, mut named) = (0, 0);
+        t.line(
+            &name(call),
+            |k, look| {
+                let r = ours::judge_mapped(s, w.m(k), w.h(k, holder(k)), w.values(k, holder(k)), judged(case, k), &mut verdict, &mut named);
+                let said = if verdict == 1 { &[1][..] } else { &[0, named][..] };
+                give(look, || digest(r, said), r | verdict)
+            },
+            |k, look| {
+                let r = reference::judge_mapped(s, w.m(k), w.h(k, holder(k)), w.values(k, holder(k)), judged(case, k));
+                give(look, || of(&r, &[]), r.values[0])
+            },
+        );
+    }
 }
 
 /// Board keys. Their setup is fixed, so that the reference makes its matrix in each call; ours has it built in.

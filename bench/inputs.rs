@@ -1,7 +1,7 @@
 //! Inputs: setups, dealings, sets and files, drawn from a seed.
 
 use crate::TURN;
-use reference::Params;
+use reference::{Mapped, Params, Second};
 
 /// SplitMix64.
 pub struct Random(pub u64);
@@ -43,16 +43,37 @@ pub struct Deal {
     pub hs: Vec<u16>,
     /// The values that each holder receives, by receiver and then by sender.
     pub values: Vec<u16>,
+    pub twin: Twin,
+}
+
+/// A second dealing, tied to the first by a map.
+pub struct Twin {
+    pub phi: Vec<u16>,
+    pub random: Vec<u16>,
+    pub gs: Vec<u16>,
+    pub hs: Vec<u16>,
+    pub values: Vec<u16>,
 }
 
 impl Deal {
-    fn new(s: Params, m: Vec<u16>, r: &mut Random) -> Deal {
+    fn new(s: Params, m: Vec<u16>, r: &mut Random, maps: &mut Random) -> Deal {
         let (l, d, n) = (s.l as usize, s.d(), s.n as usize);
         let (secrets, random) = (r.elements(s.p, l * l), r.elements(s.p, d * d - l * l));
         let (mut gs, mut hs) = (vec![0; n * d], vec![0; n * d]);
         reference::deal_all(s, &m, &secrets, &random, &mut gs, &mut hs);
-        let values = (0..n * n).map(|k| reference::pair_value(s, &m, &gs[k % n * d..][..d], (k / n) as u16).values[0]).collect();
-        Deal { m, secrets, random, gs, hs, values }
+        let received =
+            |gs: &[u16]| (0..n * n).map(|k| reference::pair_value(s, &m, &gs[k % n * d..][..d], (k / n) as u16).values[0]).collect();
+        let (phi, random2) = (maps.elements(s.p, l * l), maps.elements(s.p, s.e as usize * d));
+        let (mut gs2, mut hs2) = (vec![0; n * d], vec![0; n * d]);
+        let from = Mapped { secrets: &secrets, random: &random, phi: &phi, random2: &random2 };
+        reference::deal_mapped_all(s, &m, from, [&mut gs.clone(), &mut hs.clone(), &mut gs2, &mut hs2]);
+        let twin = Twin { phi, random: random2, values: received(&gs2), gs: gs2, hs: hs2 };
+        Deal { values: received(&gs), m, secrets, random, gs, hs, twin }
+    }
+
+    /// What both dealings are made from.
+    pub fn mapped(&self) -> Mapped<'_> {
+        Mapped { secrets: &self.secrets, random: &self.random, phi: &self.twin.phi, random2: &self.twin.random }
     }
 }
 
@@ -69,7 +90,7 @@ impl World {
 
     pub fn with(p: u16, l: u16, e: u16, n: u16, turned: bool) -> World {
         let s = Params { p, l, e, n };
-        let mut r = Random(p as u64);
+        let (mut r, mut maps) = (Random(p as u64), Random(!p as u64));
         let mut m = vec![0; s.entries()];
         // Where the field has too few points, any matrix by which all holders determine the secrets.
         if reference::points(s, &mut m).number != 0 {
@@ -83,7 +104,7 @@ impl World {
                 if turned {
                     r.shuffle(&mut rows);
                 }
-                Deal::new(s, rows.concat(), &mut r)
+                Deal::new(s, rows.concat(), &mut r, &mut maps)
             })
             .collect();
         World { s, deals }
@@ -100,6 +121,16 @@ impl World {
     }
     pub fn values(&self, k: usize, i: usize) -> &[u16] {
         &self.deals[k].values[i * self.s.n as usize..][..self.s.n as usize]
+    }
+    /// What holder i judges of the second dealing.
+    pub fn second(&self, k: usize, i: usize) -> Second<'_> {
+        let (x, d, n) = (&self.deals[k].twin, self.s.d(), self.s.n as usize);
+        Second { phi: &x.phi, h: &x.hs[i * d..][..d], values: &x.values[i * n..][..n] }
+    }
+    /// Holder i's part of the second dealing, and the map.
+    pub fn second_part(&self, k: usize, i: usize) -> [&[u16]; 3] {
+        let (x, d) = (&self.deals[k].twin, self.s.d());
+        [&x.gs[i * d..][..d], &x.hs[i * d..][..d], &x.phi]
     }
     /// Shares of column b of dealing k, by rising holder.
     pub fn shares(&self, k: usize, set: u32, b: usize) -> Vec<u16> {
@@ -150,16 +181,29 @@ pub fn board() -> World {
     w
 }
 
-pub fn file(w: &World, k: usize, holder: u16) -> Vec<u8> {
+/// A holder's file of an accepted dealing, or of two that are tied by a map.
+pub fn file(w: &World, k: usize, holder: u16, mapped: bool) -> Vec<u8> {
     let s = w.s;
     let mut bytes = vec![0; 10 + 2 * s.entries() + 6 + 4 * s.d()];
     let (first, second) = bytes.split_at_mut(10 + 2 * s.entries());
     reference::write_setup(s, w.m(k), first);
     reference::write_dealing(s, 7, holder, w.g(k, holder as usize), w.h(k, holder as usize), second);
+    if mapped {
+        let mut record = vec![0; 6 + 4 * s.d() + 2 * s.l as usize * s.l as usize];
+        reference::write_mapped_dealing(s, 7, holder, w.second_part(k, holder as usize), &mut record);
+        bytes.extend(record);
+    }
     for (j, &value) in (0..).zip(w.values(k, holder as usize)) {
         let mut record = [0; 10];
         reference::write_pair_value(s, 7, j, holder, value, &mut record);
         bytes.extend(record);
+    }
+    if mapped {
+        for (j, &value) in (0..).zip(w.second(k, holder as usize).values) {
+            let mut record = [0; 10];
+            reference::write_mapped_pair_value(s, 7, j, holder, value, &mut record);
+            bytes.extend(record);
+        }
     }
     for j in 0..s.n {
         let mut record = [0; 8];

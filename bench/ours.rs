@@ -1,7 +1,7 @@
 //! The library's calls on slices, with the reference's parameters.
 
 use crate::raw::*;
-use reference::Params;
+use reference::{Mapped, Params, Parts, Second};
 
 pub fn points(s: Params, m: &mut [u16]) -> u16 {
     unsafe { mavdrusek_points(s.p, s.l, s.e, s.n, m.as_mut_ptr(), m.len()) }
@@ -16,12 +16,29 @@ pub fn deal_all(s: Params, m: &[u16], secrets: &[u16], random: &[u16], gs: &mut 
     unsafe { mavdrusek_deal_all(s.p, s.l, s.e, s.n, m.as_ptr(), m.len(), secrets.as_ptr(), secrets.len(), random.as_ptr(), random.len(),
                                 gs.as_mut_ptr(), gs.len(), hs.as_mut_ptr(), hs.len()) }
 }
+#[rustfmt::skip]
+pub fn deal_mapped(s: Params, m: &[u16], x: Mapped, holder: u16, [g, h, g2, h2]: Parts) -> u16 {
+    unsafe { mavdrusek_deal_mapped(s.p, s.l, s.e, s.n, m.as_ptr(), m.len(), x.secrets.as_ptr(), x.secrets.len(), x.random.as_ptr(),
+                                   x.random.len(), x.phi.as_ptr(), x.phi.len(), x.random2.as_ptr(), x.random2.len(), holder, g.as_mut_ptr(),
+                                   g.len(), h.as_mut_ptr(), h.len(), g2.as_mut_ptr(), g2.len(), h2.as_mut_ptr(), h2.len()) }
+}
+#[rustfmt::skip]
+pub fn deal_mapped_all(s: Params, m: &[u16], x: Mapped, [gs, hs, gs2, hs2]: Parts) -> u16 {
+    unsafe { mavdrusek_deal_mapped_all(s.p, s.l, s.e, s.n, m.as_ptr(), m.len(), x.secrets.as_ptr(), x.secrets.len(), x.random.as_ptr(),
+                                       x.random.len(), x.phi.as_ptr(), x.phi.len(), x.random2.as_ptr(), x.random2.len(), gs.as_mut_ptr(),
+                                       gs.len(), hs.as_mut_ptr(), hs.len(), gs2.as_mut_ptr(), gs2.len(), hs2.as_mut_ptr(), hs2.len()) }
+}
 pub fn pair_value(s: Params, m: &[u16], g: &[u16], to: u16, value: &mut u16) -> u16 {
     unsafe { mavdrusek_pair_value(s.p, s.l, s.e, s.n, m.as_ptr(), m.len(), g.as_ptr(), g.len(), to, value) }
 }
 #[rustfmt::skip]
 pub fn judge(s: Params, m: &[u16], h: &[u16], values: &[u16], verdict: &mut u16, named: &mut u16) -> u16 {
     unsafe { mavdrusek_judge(s.p, s.l, s.e, s.n, m.as_ptr(), m.len(), h.as_ptr(), h.len(), values.as_ptr(), values.len(), verdict, named) }
+}
+#[rustfmt::skip]
+pub fn judge_mapped(s: Params, m: &[u16], h: &[u16], values: &[u16], x: Second, verdict: &mut u16, named: &mut u16) -> u16 {
+    unsafe { mavdrusek_judge_mapped(s.p, s.l, s.e, s.n, m.as_ptr(), m.len(), h.as_ptr(), h.len(), values.as_ptr(), values.len(),
+                                    x.phi.as_ptr(), x.phi.len(), x.h.as_ptr(), x.h.len(), x.values.as_ptr(), x.values.len(), verdict, named) }
 }
 #[rustfmt::skip]
 pub fn outcome(s: Params, g: &[u16], verdicts: &[u16], shares: &mut [u16], kept: &mut u16, named: &mut u16) -> u16 {
@@ -70,6 +87,14 @@ pub fn write_dealing(s: Params, dealing: u16, holder: u16, g: &[u16], h: &[u16],
 pub fn write_pair_value(s: Params, dealing: u16, from: u16, to: u16, value: u16, out: &mut [u8]) -> u16 {
     unsafe { mavdrusek_write_pair_value(s.p, s.l, s.e, s.n, dealing, from, to, value, out.as_mut_ptr(), out.len()) }
 }
+#[rustfmt::skip]
+pub fn write_mapped_dealing(s: Params, dealing: u16, holder: u16, [g, h, phi]: [&[u16]; 3], out: &mut [u8]) -> u16 {
+    unsafe { mavdrusek_write_mapped_dealing(s.p, s.l, s.e, s.n, dealing, holder, g.as_ptr(), g.len(), h.as_ptr(), h.len(), phi.as_ptr(),
+                                            phi.len(), out.as_mut_ptr(), out.len()) }
+}
+pub fn write_mapped_pair_value(s: Params, dealing: u16, from: u16, to: u16, value: u16, out: &mut [u8]) -> u16 {
+    unsafe { mavdrusek_write_mapped_pair_value(s.p, s.l, s.e, s.n, dealing, from, to, value, out.as_mut_ptr(), out.len()) }
+}
 pub fn write_verdict(s: Params, dealing: u16, holder: u16, verdict: u16, out: &mut [u8]) -> u16 {
     unsafe { mavdrusek_write_verdict(s.p, s.l, s.e, s.n, dealing, holder, verdict, out.as_mut_ptr(), out.len()) }
 }
@@ -92,6 +117,16 @@ pub fn read_dealing(s: Params, part: &[u8], g: &mut [u16], h: &mut [u16], x: &mu
 pub fn read_pair_value(s: Params, part: &[u8], x: &mut [u16; 4]) -> u16 {
     let [dealing, from, to, value] = x;
     unsafe { mavdrusek_read_pair_value(s.p, s.l, s.e, s.n, part.as_ptr(), part.len(), dealing, from, to, value) }
+}
+#[rustfmt::skip]
+pub fn read_mapped_dealing(s: Params, part: &[u8], [g, h, phi]: [&mut [u16]; 3], x: &mut [u16; 2]) -> u16 {
+    let [dealing, holder] = x;
+    unsafe { mavdrusek_read_mapped_dealing(s.p, s.l, s.e, s.n, part.as_ptr(), part.len(), g.as_mut_ptr(), g.len(), h.as_mut_ptr(), h.len(),
+                                           phi.as_mut_ptr(), phi.len(), dealing, holder) }
+}
+pub fn read_mapped_pair_value(s: Params, part: &[u8], x: &mut [u16; 4]) -> u16 {
+    let [dealing, from, to, value] = x;
+    unsafe { mavdrusek_read_mapped_pair_value(s.p, s.l, s.e, s.n, part.as_ptr(), part.len(), dealing, from, to, value) }
 }
 pub fn read_verdict(s: Params, part: &[u8], x: &mut [u16; 3]) -> u16 {
     let [dealing, holder, verdict] = x;

@@ -5,6 +5,17 @@ use crate::measure::*;
 use crate::{ours, TURN};
 use reference::Answer;
 
+/// A writer's records, one for each input, kept for its reader.
+fn made(size: usize, write: &dyn Fn(usize, &mut [u8]) -> Answer) -> Vec<Vec<u8>> {
+    (0..TURN)
+        .map(|k| {
+            let mut out = vec![0; size];
+            assert_eq!(write(k, &mut out).number, 0);
+            out
+        })
+        .collect()
+}
+
 pub fn records(t: &mut Table, w: &World) {
     let s = w.s;
     let (l, d, n) = (s.l as usize, s.d(), s.n as usize);
@@ -12,17 +23,6 @@ pub fn records(t: &mut Table, w: &World) {
     let holder = |k: usize| (k * 7 % n) as u16;
     let dealing = |k: usize| 1 + 4095 * k as u16;
     let (mut x, mut y) = (vec![0u8; 10 + 2 * n * d], vec![0u8; 10 + 2 * n * d]);
-
-    // Each writer's records are kept for its reader.
-    let made = |size: usize, write: &dyn Fn(usize, &mut [u8]) -> Answer| -> Vec<Vec<u8>> {
-        (0..TURN)
-            .map(|k| {
-                let mut out = vec![0; size];
-                assert_eq!(write(k, &mut out).number, 0);
-                out
-            })
-            .collect()
-    };
 
     t.line(
         &name("write_setup"),
@@ -166,32 +166,100 @@ pub fn records(t: &mut Table, w: &World) {
             give(look, || of(&r, &[]), r.number)
         },
     );
+}
 
-    // Sound files of accepted dealings.
-    let files: Vec<Vec<u8>> = (0..TURN).map(|k| file(w, k, holder(k))).collect();
-    let (mut out, mut other) = ([0u8; 256], [0u8; 256]);
+/// The records of a second dealing.
+pub fn mapped(t: &mut Table, w: &World) {
+    let s = w.s;
+    let (l, d, n) = (s.l as usize, s.d(), s.n as usize);
+    let name = |call: &str| format!("{call} p {}", s.p);
+    let holder = |k: usize| (k * 7 % n) as u16;
+    let dealing = |k: usize| 1 + 4095 * k as u16;
+    let size = 6 + 4 * d + 2 * l * l;
+    let (mut x, mut y) = (vec![0u8; size], vec![0u8; size]);
+    let part = |k: usize| w.second_part(k, holder(k) as usize);
+    t.line(
+        &name("write_mapped_dealing"),
+        |k, look| {
+            let r = ours::write_mapped_dealing(s, dealing(k), holder(k), part(k), &mut x);
+            give(look, || digest(r, &wide(&x)), r)
+        },
+        |k, look| {
+            let r = reference::write_mapped_dealing(s, dealing(k), holder(k), part(k), &mut y);
+            give(look, || of(&r, &wide(&y)), r.number)
+        },
+    );
+    let written = made(size, &|k, out| reference::write_mapped_dealing(s, dealing(k), holder(k), part(k), out));
+    let lists = || [vec![0u16; d], vec![0; d], vec![0; l * l]];
+    let (mut a, mut b, mut two) = (lists(), lists(), [0; 2]);
+    t.line(
+        &name("read_mapped_dealing"),
+        |k, look| {
+            let r = ours::read_mapped_dealing(s, &written[k], a.each_mut().map(|x| &mut x[..]), &mut two);
+            give(look, || digest(r, &[&two[..], &a.concat()].concat()), r)
+        },
+        |k, look| {
+            let r = reference::read_mapped_dealing(s, &written[k], b.each_mut().map(|x| &mut x[..]));
+            give(look, || of(&r, &b.concat()), r.number)
+        },
+    );
+
+    let value = |k: usize| w.second(k, holder(k) as usize).values[k % n];
+    t.line(
+        &name("write_mapped_pair_value"),
+        |k, look| {
+            let r = ours::write_mapped_pair_value(s, dealing(k), (k % n) as u16, holder(k), value(k), &mut x[..10]);
+            give(look, || digest(r, &wide(&x[..10])), r)
+        },
+        |k, look| {
+            let r = reference::write_mapped_pair_value(s, dealing(k), (k % n) as u16, holder(k), value(k), &mut y[..10]);
+            give(look, || of(&r, &wide(&y[..10])), r.number)
+        },
+    );
+    let written = made(10, &|k, out| reference::write_mapped_pair_value(s, dealing(k), (k % n) as u16, holder(k), value(k), out));
+    let mut four = [0; 4];
+    t.line(
+        &name("read_mapped_pair_value"),
+        |k, look| {
+            let r = ours::read_mapped_pair_value(s, &written[k], &mut four);
+            give(look, || digest(r, &four), r)
+        },
+        |k, look| {
+            let r = reference::read_mapped_pair_value(s, &written[k]);
+            give(look, || of(&r, &[]), r.number)
+        },
+    );
+}
+
+/// Sound files of accepted dealings, without and with a second dealing.
+pub fn files(t: &mut Table, w: &World) {
+    let (mut out, mut other) = ([0u8; reference::TEXT], [0u8; reference::TEXT]);
     let (mut count, mut byte) = (0, 0);
-    let (mut contents, mut others) = ([0u16; 18], [0u16; 18]);
-    t.line(
-        &name("read_file"),
-        |k, look| {
-            let r = ours::read_file(&files[k], &mut contents, &mut byte);
-            give(look, || digest(r, &contents), r)
-        },
-        |k, look| {
-            let r = reference::read_file(&files[k], &mut others);
-            give(look, || of(&r, &others), r.number)
-        },
-    );
-    t.line(
-        &name("holder_file"),
-        |k, look| {
-            let r = ours::holder_file(&files[k], &mut out, &mut count, &mut byte);
-            give(look, || digest(r, &[&[count as u16][..], &wide(&out[..count])].concat()), r)
-        },
-        |k, look| {
-            let r = reference::holder_file(&files[k], &mut other);
-            give(look, || of(&r, &wide(&other[..r.values[0] as usize])), r.number)
-        },
-    );
+    let (mut contents, mut others) = ([0u16; reference::CONTENTS], [0u16; reference::CONTENTS]);
+    for (kind, mapped) in [("", false), (", with a map", true)] {
+        let name = |call: &str| format!("{call}{kind} p {}", w.s.p);
+        let files: Vec<Vec<u8>> = (0..TURN).map(|k| file(w, k, k as u16 * 7 % w.s.n, mapped)).collect();
+        t.line(
+            &name("read_file"),
+            |k, look| {
+                let r = ours::read_file(&files[k], &mut contents, &mut byte);
+                give(look, || digest(r, &contents), r)
+            },
+            |k, look| {
+                let r = reference::read_file(&files[k], &mut others);
+                give(look, || of(&r, &others), r.number)
+            },
+        );
+        t.line(
+            &name("holder_file"),
+            |k, look| {
+                let r = ours::holder_file(&files[k], &mut out, &mut count, &mut byte);
+                give(look, || digest(r, &[&[count as u16][..], &wide(&out[..count])].concat()), r)
+            },
+            |k, look| {
+                let r = reference::holder_file(&files[k], &mut other);
+                give(look, || of(&r, &wide(&other[..r.values[0] as usize])), r.number)
+            },
+        );
+    }
 }

@@ -12,14 +12,14 @@
 
 #define MOST 512
 
-static uint16_t secret[MOST], matrix[MOST], gs[MOST], hs[MOST], value;
+static uint16_t secret[MOST], matrix[MOST], phi[64], gs[MOST], hs[MOST], gs2[MOST], hs2[MOST], value;
 
 static struct { uint16_t p, l, e, n, d; } s;
 
 #define SETUP s.p, s.l, s.e, s.n
 #define ENTRIES ((size_t)s.n * s.d)
 
-/* Each call on the secret entries; matrix, setup and holders are public. It must not be refused. */
+/* Each call on the secret entries; matrix, setup, map and holders are public. It must not be refused. */
 static uint16_t deal(void)
 {
     size_t keys = (size_t)s.l * s.l, random = (size_t)s.d * s.d - keys;
@@ -33,6 +33,24 @@ static uint16_t deal_all(void)
 {
     size_t keys = (size_t)s.l * s.l, random = (size_t)s.d * s.d - keys;
     return mavdrusek_deal_all(SETUP, matrix, ENTRIES, secret, keys, secret + keys, random, gs, ENTRIES, hs, ENTRIES);
+}
+
+/* The secret entries are the secrets, the random entries and the second random entries, one behind the other. */
+static uint16_t deal_mapped(void)
+{
+    size_t keys = (size_t)s.l * s.l, random = (size_t)s.d * s.d - keys, random2 = (size_t)s.e * s.d;
+    uint16_t refused = 0;
+    for (uint16_t i = 0; i < s.n; i++)
+        refused |= mavdrusek_deal_mapped(SETUP, matrix, ENTRIES, secret, keys, secret + keys, random, phi, keys, secret + keys + random, random2, i, gs,
+                                         s.d, hs, s.d, gs2, s.d, hs2, s.d);
+    return refused;
+}
+
+static uint16_t deal_mapped_all(void)
+{
+    size_t keys = (size_t)s.l * s.l, random = (size_t)s.d * s.d - keys, random2 = (size_t)s.e * s.d;
+    return mavdrusek_deal_mapped_all(SETUP, matrix, ENTRIES, secret, keys, secret + keys, random, phi, keys, secret + keys + random, random2, gs, ENTRIES,
+                                     hs, ENTRIES, gs2, ENTRIES, hs2, ENTRIES);
 }
 
 /* The random entries first, so that the one of P that draw puts in front is refused; a byte is an entry, or 255 for 256. */
@@ -77,8 +95,9 @@ static uint16_t indexing(void)
 }
 
 static const struct { const char *name; uint16_t (*run)(void); } calls[] = {
-    {"deal", deal},       {"deal_all", deal_all},   {"deal_key", deal_key}, {"pair_value", pair_value},
-    {"combine", combine}, {"branching", branching}, {"indexing", indexing},
+    {"deal", deal},         {"deal_all", deal_all},     {"deal_mapped", deal_mapped}, {"deal_mapped_all", deal_mapped_all},
+    {"deal_key", deal_key}, {"pair_value", pair_value}, {"combine", combine},         {"branching", branching},
+    {"indexing", indexing},
 };
 
 static void draw(uint16_t p, uint64_t seed)
@@ -116,6 +135,8 @@ int main(int count, char **words)
     s.d = s.l + s.e;
     for (size_t k = 0; k < ENTRIES; k++)
         matrix[k] = (uint16_t)((k * k + 3 * k + 1) % s.p);
+    for (size_t k = 0; k < sizeof phi / sizeof *phi; k++)
+        phi[k] = (uint16_t)((5 * k * k + k + 2) % s.p);
     if (atoi(words[6]) > 0)
         mark((unsigned)atoi(words[6]));
     for (size_t k = 0; k < sizeof calls / sizeof *calls; k++)

@@ -1,5 +1,5 @@
-/* The journey of one board key: dealt to 16 holders, judged by all of them, kept, combined, opened by seven; then a dealer that lies. Exit status 1 when
- * anything is not as expected. To build and run, in the repository's folder:
+/* The journey of one board key: dealt to 16 holders, judged by all of them, kept, combined, opened by seven; then a dealer that lies; then twin boards,
+ * whose keys are tied by a public map. Exit status 1 when anything is not as expected. To build and run, in the repository's folder:
  *
  *   rt staticlib c_api
  *   cc -Wall -Wextra -O2 -Iinclude -o target/journey examples/journey.c target/staticlib/libc_api.a && target/journey
@@ -15,6 +15,11 @@ enum { P = 257, L = 4, E = 3, N = 16, D = L + E, KEY = L * L, DEALING = 1 };
 #define SETUP P, L, E, N
 
 static uint16_t matrix[N * D], gs[N * D], hs[N * D], shares[N][L];
+/* Of twin boards: the parts and the shares of the second. */
+static uint16_t gs2[N * D], hs2[N * D], shares2[N][L];
+
+/* The map of twin boards: position k of the twin's column is row k of it times the column. */
+static const uint16_t phi[KEY] = {1, 2, 0, 0, 0, 1, 3, 0, 0, 0, 1, 4, 5, 0, 0, 1};
 
 static void expect(int is_so, const char *what)
 {
@@ -50,6 +55,19 @@ static void judge_all(const uint16_t *rows, const uint16_t *columns, uint16_t *v
     }
 }
 
+/* Everyone's verdict on both dealings of twin boards, and whom a reject names. */
+static void judge_all_mapped(uint16_t *verdicts, uint16_t *named)
+{
+    for (uint16_t i = 0; i < N; i++) {
+        uint16_t values[N], values2[N];
+        exchange(gs, i, values);
+        exchange(gs2, i, values2);
+        expect(mavdrusek_judge_mapped(SETUP, matrix, N * D, hs + i * D, D, values, N, phi, KEY, hs2 + i * D, D, values2, N, &verdicts[i],
+                                      &named[i]) == 0,
+               "a judgement of both");
+    }
+}
+
 /* Opens a combination of columns by the holders in a set; its shares by rising holder. */
 static uint16_t open_combination(uint32_t set, const uint16_t *by_holder, uint16_t *secrets, uint16_t *position)
 {
@@ -73,36 +91,123 @@ static uint16_t open_key(uint32_t set, uint8_t *key, uint16_t *position)
     return mavdrusek_open_key(set, handed, count, key, KEY, position);
 }
 
-/* A holder's file: the setup, its part, the values it received and everyone's verdict; read back, printed, and refused where it is damaged. */
-static void print_file(uint16_t holder, const uint16_t *verdicts)
+/* The records of a holder's file, by their lengths, and the numbers that it is read into. */
+enum { SU = 10 + 2 * N * D, DL = 6 + 4 * D, DF = DL + 2 * KEY, PV = 10, PF = PV, VD = 8, CONTENTS = 27 };
+
+/* Writes a holder's file: the setup, its part, the values it received and everyone's verdict; of twin boards also the part of the second with the map, and
+ * the values received in it. Gives its length. */
+static size_t write_file(int twin, uint16_t holder, const uint16_t *verdicts, uint8_t *file)
 {
-    enum { SU = 10 + 2 * N * D, DL = 6 + 4 * D, PV = 10, VD = 8 };
-    uint8_t file[SU + DL + N * PV + N * VD], out[256], *at = file;
-    uint16_t values[N], contents[18];
-    size_t count, byte = 0;
-    exchange(gs, holder, values);
+    uint8_t *at = file;
+    uint16_t values[N];
     expect(mavdrusek_write_setup(SETUP, matrix, N * D, at, SU) == 0, "SU");
     at += SU;
     expect(mavdrusek_write_dealing(SETUP, DEALING, holder, gs + holder * D, D, hs + holder * D, D, at, DL) == 0, "DL");
     at += DL;
+    if (twin) {
+        expect(mavdrusek_write_mapped_dealing(SETUP, DEALING, holder, gs2 + holder * D, D, hs2 + holder * D, D, phi, KEY, at, DF) == 0, "DF");
+        at += DF;
+    }
+    exchange(gs, holder, values);
     for (uint16_t j = 0; j < N; j++, at += PV)
         expect(mavdrusek_write_pair_value(SETUP, DEALING, j, holder, values[j], at, PV) == 0, "PV");
+    if (twin) {
+        exchange(gs2, holder, values);
+        for (uint16_t j = 0; j < N; j++, at += PF)
+            expect(mavdrusek_write_mapped_pair_value(SETUP, DEALING, j, holder, values[j], at, PF) == 0, "PF");
+    }
     for (uint16_t j = 0; j < N; j++, at += VD)
         expect(mavdrusek_write_verdict(SETUP, DEALING, j, verdicts[j], at, VD) == 0, "VD");
-    expect(mavdrusek_read_file(file, sizeof file, contents, 18, &byte) == 0, "the holder's file");
+    return (size_t)(at - file);
+}
+
+/* A holder's file, read back and printed; gives its length. */
+static size_t print_file(int twin, uint16_t holder, const uint16_t *verdicts, uint8_t *file)
+{
+    uint8_t out[512];
+    uint16_t contents[CONTENTS];
+    size_t length = write_file(twin, holder, verdicts, file), count, byte = 0;
+    expect(mavdrusek_read_file(file, length, contents, CONTENTS, &byte) == 0, "the holder's file");
     expect(contents[0] == P && contents[4] == DEALING && contents[5] == holder && contents[6] == 1 && contents[8] == 1, "accept and kept");
     expect(memcmp(contents + 10, shares[holder], sizeof shares[holder]) == 0, "the shares kept");
-    expect(mavdrusek_holder_file(file, sizeof file, out, sizeof out, &count, &byte) == 0, "the file's text");
+    expect(contents[18] == twin && (!twin || memcmp(contents + 19, shares2[holder], sizeof shares2[holder]) == 0), "the twin's shares kept");
+    expect(mavdrusek_holder_file(file, length, out, sizeof out, &count, &byte) == 0, "the file's text");
     expect(strncmp((char *)out, "setup 257 4 3 16\n", 17) == 0, "the text's first line");
     printf("holder %d's file prints\n", holder);
     for (size_t k = 0; k < count; k++)
         printf("%s%c", k == 0 || out[k - 1] == '\n' ? "    " : "", out[k]);
+    return length;
+}
+
+/* A holder's file, and that it is refused where it is damaged. */
+static void show_file(uint16_t holder, const uint16_t *verdicts)
+{
+    uint8_t file[SU + DL + N * PV + N * VD];
+    uint16_t contents[CONTENTS];
+    size_t byte = 0;
+    expect(print_file(0, holder, verdicts, file) == sizeof file, "the file's length");
     /* A value of p in its first PV, the record behind SU and DL. */
     file[SU + DL + 8] = P % 256;
     file[SU + DL + 9] = P / 256;
-    uint16_t refusal = mavdrusek_read_file(file, sizeof file, contents, 18, &byte);
+    uint16_t refusal = mavdrusek_read_file(file, sizeof file, contents, CONTENTS, &byte);
     expect(refusal == 4 && byte == SU + DL, "a damaged file is refused");
     printf("the same with a value of 257: refused %d at %zu\n", refusal, byte);
+}
+
+/* Opens a column by the holders in a set, from the shares of all. */
+static void open_column(uint32_t set, uint16_t all[N][L], int b, uint16_t *secrets)
+{
+    uint16_t of_column[N], position;
+    for (int i = 0; i < N; i++)
+        of_column[i] = all[i][b];
+    expect(open_combination(set, of_column, secrets, &position) == 0, "a column opens");
+}
+
+/* Twin boards: two keys tied by a public map are dealt together, and the holders check the map as well. */
+static void twin_boards(const uint8_t *key, uint32_t seven)
+{
+    enum { RANDOM = D * D - KEY, RANDOM2 = E * D };
+    uint16_t array[KEY], random[RANDOM], random2[RANDOM2], verdicts[N], named[N], kept, first, column[L], twin[L];
+    uint8_t file[SU + DL + DF + N * PV + N * PF + N * VD];
+    for (int k = 0; k < KEY; k++)
+        array[k] = key[k];
+    for (int k = 0; k < RANDOM; k++)
+        random[k] = drawn();
+    for (int k = 0; k < RANDOM2; k++)
+        random2[k] = drawn();
+    expect(mavdrusek_deal_mapped_all(SETUP, matrix, N * D, array, KEY, random, RANDOM, phi, KEY, random2, RANDOM2, gs, N * D, hs, N * D, gs2, N * D,
+                                     hs2, N * D) == 0,
+           "a dealing with a map");
+    judge_all_mapped(verdicts, named);
+    for (int i = 0; i < N; i++) {
+        expect(verdicts[i] == 1, "accept of both and the map");
+        expect(mavdrusek_outcome(SETUP, gs + i * D, D, verdicts, N, shares[i], L, &kept, &first) == 0 && kept == 1, "kept");
+        expect(mavdrusek_outcome(SETUP, gs2 + i * D, D, verdicts, N, shares2[i], L, &kept, &first) == 0 && kept == 1, "kept of the twin");
+    }
+    printf("twin boards: two keys tied by a map dealt to %d holders; all accept both and the map\n", N);
+    expect(print_file(1, 3, verdicts, file) == sizeof file, "the file's length");
+
+    /* Seven open a column of both: the second is the map of the first. */
+    open_column(seven, shares, 1, column);
+    open_column(seven, shares2, 1, twin);
+    for (int k = 0; k < L; k++) {
+        uint32_t image = 0;
+        for (int c = 0; c < L; c++)
+            image += (uint32_t)phi[k * L + c] * column[c];
+        expect(column[k] == key[L + k] && twin[k] == image % P, "a column and its map");
+    }
+    printf("opened by seven: column 1 is %d %d %d %d, the twin's is its map, %d %d %d %d\n", column[0], column[1], column[2], column[3], twin[0], twin[1],
+           twin[2], twin[3]);
+
+    /* A dealer whose second dealing is sound, but of another key than the map gives: all values agree, and the check of the map fails. */
+    for (int k = 0; k < RANDOM; k++)
+        random[k] = drawn();
+    expect(mavdrusek_deal_all(SETUP, matrix, N * D, array, KEY, random, RANDOM, gs2, N * D, hs2, N * D) == 0, "a dealing of another key");
+    judge_all_mapped(verdicts, named);
+    for (int i = 0; i < N; i++)
+        expect(verdicts[i] == 0 && named[i] == 65535, "reject map");
+    expect(mavdrusek_outcome(SETUP, gs2, D, verdicts, N, shares2[0], L, &kept, &first) == 0 && kept == 0 && first == 0, "aborted by holder 0");
+    printf("a twin's key that is not the map: everyone says reject map; aborted by holder 0\n");
 }
 
 int main(void)
@@ -136,7 +241,7 @@ int main(void)
     for (int i = 0; i < N; i++)
         expect(mavdrusek_outcome(SETUP, gs + i * D, D, verdicts, N, shares[i], L, &kept, &first) == 0 && kept == 1, "kept");
     printf("kept: holder 3's shares are %d %d %d %d\n", shares[3][0], shares[3][1], shares[3][2], shares[3][3]);
-    print_file(3, verdicts);
+    show_file(3, verdicts);
 
     /* Seven holders open: first a combination of two columns, 3 times column 0 and 5 times column 2, then the key. */
     uint32_t seven = 1 << 0 | 1 << 2 | 1 << 4 | 1 << 5 | 1 << 7 | 1 << 10 | 1 << 15;
@@ -211,5 +316,7 @@ int main(void)
     uint16_t refusal = open_key(0xffff, opened, &position);
     expect(refusal == 16 && memcmp(opened, untouched, KEY) == 0, "no key");
     printf("256 dealt for a byte: all accept; opened by all, it is no key: refused %d\n", refusal);
+
+    twin_boards(key, seven);
     return 0;
 }

@@ -15,19 +15,19 @@
  *   3  a length is not the one needed, over 64 terms, or a record is cut short
  *   4  a field element is p or more
  *   5  a holder, column or position out of range, an SH with dealing 0 and a column other than 0, or a set bit at or above n;
- *      in a file also a PV to another holder than the one of its DL
+ *      in a file also a DF of another holder, or a PV or PF to another holder, than the one of its DL
  *   6  the opening set does not determine the secrets
  *   7  it does, but no vector gives all the shares
  *   8  another mark than the record's; in a file a mark that has no place there
  *   9  dealing number 0 outside SH; in a file also one that is not the DL's
- *  10  in a file: a second SU or DL, or a second PV or VD from one holder
+ *  10  in a file: a second SU, DL or DF, or a second PV, PF or VD from one holder
  *  11  a file ends with a record missing
  *  12  a verdict is neither 0 nor 1
  *  13  in a file: the holder's own VD is not what its own judgement gives
  *  14  retired, and never given: a combination of no shares is 0
  *  15  points matrix with d + n above p
  *  16  an opened position of a board key is 256 and so no byte
- *  17  in a file: a PV or VD that is not the next one due
+ *  17  in a file: a PV, PF or VD that is not the next one due
  * A reader tests the setup and the buffers that it is lent, then the mark, then the length, then the rest. (mavdrusek_read_setup_matrix knows the length
  * needed only from the record, and tests its buffer after the record's length.) In a file the first faulty record decides, and in it the mark, then the
  * length, then the lowest number; 11 and 13 come last. docs/RECORDS.md has the layout of every record.
@@ -64,6 +64,21 @@ uint16_t mavdrusek_deal_all(uint16_t p, uint16_t l, uint16_t e, uint16_t n, cons
                             size_t secrets_len, const uint16_t *random, size_t random_len, uint16_t *gs, size_t gs_len, uint16_t *hs,
                             size_t hs_len);
 
+/* Holder `holder`'s part of two dealings tied by a public map: g and h as mavdrusek_deal gives them, and g2 and h2 of a second dealing, d entries each.
+ * `phi`, the map, has l * l elements by rows: position k of the map of a vector is row k of phi times it. The first l entries of every column of the
+ * second array are the map of those of the first, so that column b of the second opens to the map of column b of the first. `random2` has e * d
+ * elements, the last e rows of the second array row by row, drawn evenly by the caller and not used elsewhere; phi is no secret. Refusals 1 to 5. */
+uint16_t mavdrusek_deal_mapped(uint16_t p, uint16_t l, uint16_t e, uint16_t n, const uint16_t *matrix, size_t matrix_len, const uint16_t *secrets,
+                               size_t secrets_len, const uint16_t *random, size_t random_len, const uint16_t *phi, size_t phi_len,
+                               const uint16_t *random2, size_t random2_len, uint16_t holder, uint16_t *g, size_t g_len, uint16_t *h, size_t h_len,
+                               uint16_t *g2, size_t g2_len, uint16_t *h2, size_t h2_len);
+
+/* Every holder's part of both: holder i's at i * d of `gs`, `hs`, `gs2` and `hs2`, n * d entries each. Refusals 1 to 4. */
+uint16_t mavdrusek_deal_mapped_all(uint16_t p, uint16_t l, uint16_t e, uint16_t n, const uint16_t *matrix, size_t matrix_len, const uint16_t *secrets,
+                                   size_t secrets_len, const uint16_t *random, size_t random_len, const uint16_t *phi, size_t phi_len,
+                                   const uint16_t *random2, size_t random2_len, uint16_t *gs, size_t gs_len, uint16_t *hs, size_t hs_len,
+                                   uint16_t *gs2, size_t gs2_len, uint16_t *hs2, size_t hs2_len);
+
 /* ---- Judging */
 
 /* The value that the holder with row part g (d entries) sends to holder `to`. Refusals 1 to 5. */
@@ -74,6 +89,15 @@ uint16_t mavdrusek_pair_value(uint16_t p, uint16_t l, uint16_t e, uint16_t n, co
  * its contents; or 0 for reject, and *named is the lowest sender whose value differs. Refusals 1 to 4. */
 uint16_t mavdrusek_judge(uint16_t p, uint16_t l, uint16_t e, uint16_t n, const uint16_t *matrix, size_t matrix_len, const uint16_t *h, size_t h_len,
                          const uint16_t *values, size_t values_len, uint16_t *verdict, uint16_t *named);
+
+/* The judgement of both dealings by the holder with column parts h and h2 (d entries each) on the n values that it received in each, by sender, and on
+ * the map (l * l elements by rows): *verdict is 1 for accept, and *named keeps its contents; or 0 for reject, and *named is the lowest sender whose value
+ * differs in either dealing, or 65535, which is no holder, where all values agree and only the check of the map fails: the first l entries of h2 are not
+ * the map of those of h. Pair values and the outcome of the second dealing are those of mavdrusek_pair_value and mavdrusek_outcome on g2. Refusals 1 to
+ * 4. */
+uint16_t mavdrusek_judge_mapped(uint16_t p, uint16_t l, uint16_t e, uint16_t n, const uint16_t *matrix, size_t matrix_len, const uint16_t *h,
+                                size_t h_len, const uint16_t *values, size_t values_len, const uint16_t *phi, size_t phi_len, const uint16_t *h2,
+                                size_t h2_len, const uint16_t *values2, size_t values2_len, uint16_t *verdict, uint16_t *named);
 
 /* The outcome for the holder with row part g (d entries) on the n verdicts that it received: *kept is 1, the l shares, one for each column, are
  * written, and *named keeps its contents; or *kept is 0, *named is the lowest holder that said reject, and `shares` keeps its contents. Refusals 1 to
@@ -154,6 +178,16 @@ uint16_t mavdrusek_write_dealing(uint16_t p, uint16_t l, uint16_t e, uint16_t n,
 uint16_t mavdrusek_write_pair_value(uint16_t p, uint16_t l, uint16_t e, uint16_t n, uint16_t dealing, uint16_t sender, uint16_t receiver,
                                     uint16_t value, uint8_t *out, size_t out_len);
 
+/* DF, a holder's part of a second dealing with the map that ties it to the first, 6 + 4 * d + 2 * l * l bytes; g and h, those of the second dealing, have
+ * d entries each, phi has l * l. Refusals 1 to 5, 9. */
+uint16_t mavdrusek_write_mapped_dealing(uint16_t p, uint16_t l, uint16_t e, uint16_t n, uint16_t dealing, uint16_t holder, const uint16_t *g,
+                                        size_t g_len, const uint16_t *h, size_t h_len, const uint16_t *phi, size_t phi_len, uint8_t *out,
+                                        size_t out_len);
+
+/* PF, a pair value of a second dealing, 10 bytes. Refusals 1 to 5, 9. */
+uint16_t mavdrusek_write_mapped_pair_value(uint16_t p, uint16_t l, uint16_t e, uint16_t n, uint16_t dealing, uint16_t sender, uint16_t receiver,
+                                           uint16_t value, uint8_t *out, size_t out_len);
+
 /* VD, 8 bytes; verdict 1 accepts, 0 rejects. Refusals 1, 2, 3, 5, 9, 12. */
 uint16_t mavdrusek_write_verdict(uint16_t p, uint16_t l, uint16_t e, uint16_t n, uint16_t dealing, uint16_t holder, uint16_t verdict, uint8_t *out,
                                  size_t out_len);
@@ -179,6 +213,15 @@ uint16_t mavdrusek_read_dealing(uint16_t p, uint16_t l, uint16_t e, uint16_t n, 
 uint16_t mavdrusek_read_pair_value(uint16_t p, uint16_t l, uint16_t e, uint16_t n, const uint8_t *part, size_t part_len, uint16_t *dealing,
                                    uint16_t *sender, uint16_t *receiver, uint16_t *value);
 
+/* A DF; g and h have d entries each, phi has l * l. Refusals 1 to 5, 8, 9. */
+uint16_t mavdrusek_read_mapped_dealing(uint16_t p, uint16_t l, uint16_t e, uint16_t n, const uint8_t *part, size_t part_len, uint16_t *g,
+                                       size_t g_len, uint16_t *h, size_t h_len, uint16_t *phi, size_t phi_len, uint16_t *dealing,
+                                       uint16_t *holder);
+
+/* A PF. Refusals 1 to 5, 8, 9. */
+uint16_t mavdrusek_read_mapped_pair_value(uint16_t p, uint16_t l, uint16_t e, uint16_t n, const uint8_t *part, size_t part_len, uint16_t *dealing,
+                                          uint16_t *sender, uint16_t *receiver, uint16_t *value);
+
 /* A VD. Refusals 1, 2, 3, 5, 8, 9, 12. */
 uint16_t mavdrusek_read_verdict(uint16_t p, uint16_t l, uint16_t e, uint16_t n, const uint8_t *part, size_t part_len, uint16_t *dealing,
                                 uint16_t *holder, uint16_t *verdict);
@@ -189,19 +232,23 @@ uint16_t mavdrusek_read_share(uint16_t p, uint16_t l, uint16_t e, uint16_t n, co
 
 /* ---- The holder's file */
 
-/* Reads a holder's file of at most 4,096 bytes: SU, DL, the n PV by rising sender, the n VD by rising holder. `contents` has 18 entries:
- *   0 to 3   p, l, e, n
- *   4, 5     the dealing number, the holder
- *   6, 7     the holder's judgement: 1 accept, and 0; or 0 reject, and the sender that it names
- *   8, 9     the outcome: 1 kept, and 0; or 0 aborted, and the holder that it names
- *   10 ..    the l shares where kept; zeros up to 18
+/* Reads a holder's file of at most 4,096 bytes: SU, DL, the n PV by rising sender, the n VD by rising holder; where the dealing is tied to a second one
+ * by a map, its DF comes right behind the DL, and the n PF by rising sender come between the PV and the VD. `contents` has 27 entries:
+ *   0 to 3     p, l, e, n
+ *   4, 5       the dealing number, the holder
+ *   6, 7       the holder's judgement, with a DF that of both dealings: 1 accept, and 0; or 0 reject, and the sender that it names, or 65535 where only
+ *              the check of the map fails
+ *   8, 9       the outcome: 1 kept, and 0; or 0 aborted, and the holder that it names
+ *   10 to 17   the l shares where kept, then zeros; zeros where aborted
+ *   18         1 where the file has a DF, 0 where it has none
+ *   19 to 26   with a DF the l shares of the second dealing where kept, then zeros; else zeros
  * A file that breaks the rules is refused by its number, 1 to 5, 8 to 13 or 17, and *byte is the byte where the faulty record starts, or the file's length
  * for 11 and 13; `contents` keeps its contents. Where the file is read, *byte keeps its contents. A file of more than 4,096 bytes and a `contents` of another
  * length are refused by 3 before the file is looked at, and then *byte keeps its contents too. */
 uint16_t mavdrusek_read_file(const uint8_t *file, size_t file_len, uint16_t *contents, size_t contents_len, size_t *byte);
 
-/* The text of such a file, as the holder program prints it, into `out`, 256 bytes; *count is how many they are, and the bytes behind them keep their
- * contents. Refused as by mavdrusek_read_file, an out_len other than 256 by 3 with no byte; then `out` and *count keep their contents. */
+/* The text of such a file, as the holder program prints it, into `out`, 512 bytes; *count is how many they are, and the bytes behind them keep their
+ * contents. Refused as by mavdrusek_read_file, an out_len other than 512 by 3 with no byte; then `out` and *count keep their contents. */
 uint16_t mavdrusek_holder_file(const uint8_t *file, size_t file_len, uint8_t *out, size_t out_len, size_t *count, size_t *byte);
 
 #ifdef __cplusplus

@@ -1,5 +1,6 @@
-//! The journey of one board key: dealt to 16 holders, judged by all of them, kept, combined, opened by seven; then a dealer that lies. Each step says
-//! what it found and stops the program if that is not what it should be (`cargo run --offline --example journey`).
+//! The journey of one board key: dealt to 16 holders, judged by all of them, kept, combined, opened by seven; then a dealer that lies; then twin boards,
+//! whose keys are tied by a public map. Each step says what it found and stops the program if that is not what it should be (`cargo run --offline --example
+//! journey`).
 
 use mavdrusek::*;
 
@@ -8,15 +9,27 @@ const SETUP: Setup = BOARD;
 const D: usize = 7;
 const HOLDERS: u16 = 16;
 
+/// The map of twin boards: position k of the twin's column is row k of it times the column.
+const PHI: [u16; 16] = [1, 2, 0, 0, 0, 1, 3, 0, 0, 0, 1, 4, 5, 0, 0, 1];
+
+/// The parts that a holder of twin boards has of the second.
+struct Twin<'a> {
+    gs: &'a [u16],
+    hs: &'a [u16],
+}
+
 /// A fixed generator, so that the example prints the same each time. A real dealer must draw each entry evenly below p from a secure source:
 /// whoever can guess the random entries learns the key from a single part.
-fn drawn(seed: u64, count: usize) -> Vec<u16> {
-    let mut state = seed;
-    let mut next = || {
-        state = state.wrapping_mul(6364136223846793005).wrapping_add(1442695040888963407);
-        ((state >> 33) % SETUP.p as u64) as u16
-    };
-    (0..count).map(|_| next()).collect()
+struct Source(u64);
+
+impl Source {
+    fn drawn(&mut self, count: usize) -> Vec<u16> {
+        let mut next = || {
+            self.0 = self.0.wrapping_mul(6364136223846793005).wrapping_add(1442695040888963407);
+            ((self.0 >> 33) % SETUP.p as u64) as u16
+        };
+        (0..count).map(|_| next()).collect()
+    }
 }
 
 fn part(parts: &[u16], holder: u16) -> &[u16] {
@@ -33,6 +46,15 @@ fn judgements(matrix: &[u16], gs: &[u16], hs: &[u16]) -> Result<Vec<Judgement>, 
     (0..HOLDERS).map(|i| SETUP.judge(matrix, part(hs, i), &received(matrix, gs, i)?)).collect()
 }
 
+/// Everyone's judgement of both dealings of twin boards.
+fn judgements_mapped(matrix: &[u16], gs: &[u16], hs: &[u16], twin: &Twin) -> Result<Vec<Judgement>, Refusal> {
+    let judge = |i| {
+        let (values, values2) = (received(matrix, gs, i)?, received(matrix, twin.gs, i)?);
+        SETUP.judge_mapped(matrix, part(hs, i), &values, &PHI, part(twin.hs, i), &values2)
+    };
+    (0..HOLDERS).map(judge).collect()
+}
+
 fn verdicts(found: &[Judgement]) -> Vec<Verdict> {
     found.iter().map(|j| j.verdict()).collect()
 }
@@ -42,16 +64,30 @@ fn handed(shares: &[[u16; 4]; 16], set: u32) -> Vec<u16> {
     (0..4).flat_map(|b| (0..16).filter(move |i| set >> i & 1 == 1).map(move |i| shares[i][b])).collect()
 }
 
-/// A holder's file: the setup, its part, the values it received and everyone's verdict.
-fn file(matrix: &[u16], gs: &[u16], hs: &[u16], said: &[Verdict], holder: u16) -> Result<Vec<u8>, Refusal> {
+/// A holder's file: the setup, its part, the values it received and everyone's verdict; of twin boards also the part of the second with the map, and the
+/// values received in it.
+fn file(matrix: &[u16], gs: &[u16], hs: &[u16], twin: Option<&Twin>, said: &[Verdict], holder: u16) -> Result<Vec<u8>, Refusal> {
     let mut bytes = vec![0; SETUP.setup_bytes() + SETUP.dealing_bytes()];
     let (first, second) = bytes.split_at_mut(SETUP.setup_bytes());
+    let numbers = DealingRecord { dealing: 1, holder };
     SETUP.write_setup(matrix, first)?;
-    SETUP.write_dealing(&DealingRecord { dealing: 1, holder }, part(gs, holder), part(hs, holder), second)?;
+    SETUP.write_dealing(&numbers, part(gs, holder), part(hs, holder), second)?;
+    if let Some(twin) = twin {
+        let mut record = vec![0; SETUP.mapped_dealing_bytes()];
+        SETUP.write_mapped_dealing(&numbers, part(twin.gs, holder), part(twin.hs, holder), &PHI, &mut record)?;
+        bytes.extend(record);
+    }
     for (sender, value) in (0..).zip(received(matrix, gs, holder)?) {
         let mut record = [0; PAIR_VALUE_BYTES];
         SETUP.write_pair_value(&PairValueRecord { dealing: 1, sender, receiver: holder, value }, &mut record)?;
         bytes.extend(record);
+    }
+    if let Some(twin) = twin {
+        for (sender, value) in (0..).zip(received(matrix, twin.gs, holder)?) {
+            let mut record = [0; PAIR_VALUE_BYTES];
+            SETUP.write_mapped_pair_value(&PairValueRecord { dealing: 1, sender, receiver: holder, value }, &mut record)?;
+            bytes.extend(record);
+        }
     }
     for (holder, &verdict) in (0..).zip(said) {
         let mut record = [0; VERDICT_BYTES];
@@ -61,6 +97,65 @@ fn file(matrix: &[u16], gs: &[u16], hs: &[u16], said: &[Verdict], holder: u16) -
     Ok(bytes)
 }
 
+/// Reads a file back and prints its text.
+fn print_file(bytes: &[u8]) -> Result<FileContents, Refusal> {
+    let found = read_file(bytes).map_err(|refused| refused.refusal)?;
+    assert_eq!((found.setup, found.dealing), (SETUP, 1));
+    assert_eq!((found.judgement, found.outcome), (Judgement::Accept, Outcome::Kept));
+    let text: String = found.text.lines().map(|line| format!("    {line}\n")).collect();
+    print!("holder {}'s file prints\n{text}", found.holder);
+    Ok(found)
+}
+
+/// Opens a column by the holders in a set, from the shares of all.
+fn open_column(matrix: &[u16], set: u32, shares: &[[u16; 4]; 16], b: usize) -> Result<[u16; 4], Refusal> {
+    let handed: Vec<u16> = (0..16).filter(|i| set >> i & 1 == 1).map(|i| shares[i][b]).collect();
+    let mut column = [0; 4];
+    SETUP.open(matrix, set, &handed, &mut column)?;
+    Ok(column)
+}
+
+/// Numbers with a space between them.
+fn spaced(numbers: &[u16]) -> String {
+    numbers.iter().map(u16::to_string).collect::<Vec<_>>().join(" ")
+}
+
+/// Twin boards: two keys tied by a public map are dealt together, and the holders check the map as well.
+fn twin_boards(matrix: &[u16], dealt: &[u16], seven: u32, source: &mut Source) -> Result<(), Refusal> {
+    let (random, random2) = (source.drawn(SETUP.random()), source.drawn(SETUP.random2()));
+    let secrets = MappedSecrets { secrets: dealt, random: &random, phi: &PHI, random2: &random2 };
+    let [mut gs, mut hs, mut gs2, mut hs2] = [[0; 112]; 4];
+    SETUP.deal_mapped_all(matrix, &secrets, MappedParts { g: &mut gs, h: &mut hs, g2: &mut gs2, h2: &mut hs2 })?;
+    let twin = Twin { gs: &gs2, hs: &hs2 };
+    let found = judgements_mapped(matrix, &gs, &hs, &twin)?;
+    assert_eq!(found, vec![Judgement::Accept; 16]);
+    let said = verdicts(&found);
+    let (mut shares, mut shares2) = ([[0; 4]; 16], [[0; 4]; 16]);
+    for i in 0..HOLDERS {
+        assert_eq!(SETUP.outcome(part(&gs, i), &said, &mut shares[i as usize])?, Outcome::Kept);
+        assert_eq!(SETUP.outcome(part(&gs2, i), &said, &mut shares2[i as usize])?, Outcome::Kept);
+    }
+    println!("twin boards: two keys tied by a map dealt to {HOLDERS} holders; all accept both and the map");
+    let contents = print_file(&file(matrix, &gs, &hs, Some(&twin), &said, 3)?)?;
+    assert_eq!((contents.shares, contents.mapped), (shares[3].to_vec(), Some(shares2[3].to_vec())));
+
+    // Seven open a column of both: the second is the map of the first.
+    let (column, second) = (open_column(matrix, seven, &shares, 1)?, open_column(matrix, seven, &shares2, 1)?);
+    assert_eq!(column, dealt[4..8]);
+    for k in 0..4 {
+        assert_eq!(second[k], combine(257, &PHI[4 * k..4 * k + 4], &column)?);
+    }
+    println!("opened by seven: column 1 is {}, the twin's is its map, {}", spaced(&column), spaced(&second));
+
+    // A dealer whose second dealing is sound, but of another key than the map gives: all values agree, and the check of the map fails.
+    SETUP.deal_all(matrix, dealt, &source.drawn(SETUP.random()), &mut gs2, &mut hs2)?;
+    let found = judgements_mapped(matrix, &gs, &hs, &Twin { gs: &gs2, hs: &hs2 })?;
+    assert_eq!(found, vec![Judgement::RejectMap; 16]);
+    assert_eq!(SETUP.outcome(part(&gs2, 0), &verdicts(&found), &mut shares2[0])?, Outcome::Aborted(0));
+    println!("a twin's key that is not the map: everyone says reject map; aborted by holder 0");
+    Ok(())
+}
+
 pub fn main() -> Result<(), Refusal> {
     // The matrix of board keys, a points matrix, which dealing and opening have built in: any 7 holders determine the key, any 3 are private.
     let mut matrix = vec![0; SETUP.entries()];
@@ -68,9 +163,9 @@ pub fn main() -> Result<(), Refusal> {
     println!("points matrix: {} rows of {D}", HOLDERS);
 
     // The dealer: a key of 16 bytes as four columns of four.
-    let key = Key::from_bytes(*b"sixteen-byte key");
+    let (key, mut source) = (Key::from_bytes(*b"sixteen-byte key"), Source(2014));
     let (mut gs, mut hs) = (vec![0; SETUP.entries()], vec![0; SETUP.entries()]);
-    deal_key(&key, &drawn(2014, SETUP.random()), &mut gs, &mut hs)?;
+    deal_key(&key, &source.drawn(SETUP.random()), &mut gs, &mut hs)?;
     assert_eq!(SETUP.rehearse(&matrix, &gs, &hs)?, Rehearsal::Fair);
     println!("dealt: four columns to {HOLDERS} holders; the rehearsal is fair");
 
@@ -88,13 +183,10 @@ pub fn main() -> Result<(), Refusal> {
     println!("kept: holder 3's shares are {:?}", shares[3]);
 
     // Holder 3's file, read back.
-    let mut bytes = file(&matrix, &gs, &hs, &said, 3)?;
-    let found = read_file(&bytes).map_err(|refused| refused.refusal)?;
-    assert_eq!((found.setup, found.dealing, found.holder), (SETUP, 1, 3));
-    assert_eq!((found.judgement, found.outcome), (Judgement::Accept, Outcome::Kept));
-    assert_eq!(found.shares, shares[3]);
+    let mut bytes = file(&matrix, &gs, &hs, None, &said, 3)?;
+    let found = print_file(&bytes)?;
+    assert_eq!((found.holder, &found.shares[..], &found.mapped), (3, &shares[3][..], &None));
     assert!(found.text.starts_with("setup 257 4 3 16\ndealing 1 holder 3\nverdict accept\noutcome kept\nshare 0 "));
-    print!("holder 3's file prints\n{}", found.text.lines().map(|line| format!("    {line}\n")).collect::<String>());
     // A value of p in its first PV, the record behind SU and DL.
     let start = SETUP.setup_bytes() + SETUP.dealing_bytes();
     bytes[start + 8..start + 10].copy_from_slice(&SETUP.p.to_le_bytes());
@@ -158,14 +250,15 @@ pub fn main() -> Result<(), Refusal> {
 
     // A dealer that deals 256 where a byte belongs, with new random entries, as each dealing needs: every holder accepts, for the parts agree, but what
     // opens is no key.
-    let mut array = dealt;
+    let mut array = dealt.clone();
     array[6] = 256;
-    SETUP.deal_all(&matrix, &array, &drawn(256, SETUP.random()), &mut gs, &mut hs)?;
+    SETUP.deal_all(&matrix, &array, &source.drawn(SETUP.random()), &mut gs, &mut hs)?;
     assert_eq!(judgements(&matrix, &gs, &hs)?, vec![Judgement::Accept; 16]);
     for i in 0..HOLDERS {
         assert_eq!(SETUP.outcome(part(&gs, i), &said, &mut shares[i as usize])?, Outcome::Kept);
     }
     assert_eq!(open_key(0xffff, &handed(&shares, 0xffff)).err(), Some(Refusal::NoByte));
     println!("256 dealt for a byte: all accept; opened by all, it is no key: {}", Refusal::NoByte);
-    Ok(())
+
+    twin_boards(&matrix, &dealt, seven, &mut source)
 }

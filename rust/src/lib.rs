@@ -14,6 +14,9 @@
 //! passes slices and turns numbers into types. The library tests all it is lent, lengths too, and refuses what is wrong; after a refusal every lent
 //! slice holds what it held before.
 //!
+//! Two keys may be tied by a public map, an ℓ by ℓ matrix φ: [`Setup::deal_mapped_all`] deals both, and [`Setup::judge_mapped`] also checks the map. Where
+//! holders who follow the rules have kept both, a column that opens in both opens to a secret and to φ times it, though the dealer lied.
+//!
 //! A board key is sixteen bytes over one fixed setup, [`BOARD`]: [`deal_key`] and [`open_key`] take and give it as a [`Key`].
 //!
 //! Types that carry keys, shares or pair values have no `Debug` and are not `Copy`, so that they are not printed or copied in passing. Nothing is wiped:
@@ -65,7 +68,7 @@ pub const PRIMES: [u16; 5] = [2, 7, 251, 257, 65521];
 pub const SET_ENTRIES: usize = 32;
 /// The most terms that [`combine`] takes.
 pub const MOST_TERMS: usize = 64;
-/// Bytes of a PV record.
+/// Bytes of a PV record, and of a PF record.
 pub const PAIR_VALUE_BYTES: usize = 10;
 /// Bytes of a VD record.
 pub const VERDICT_BYTES: usize = 8;
@@ -90,8 +93,8 @@ pub enum Refusal {
     Length,
     /// 4: a field element is p or more.
     Element,
-    /// 5: a holder, column or position is out of range, a share of a combination has a column other than 0, a set has a bit at or above n, or a PV of a
-    /// file is for another holder.
+    /// 5: a holder, column or position is out of range, a share of a combination has a column other than 0, a set has a bit at or above n, or a DF, PV or
+    /// PF of a file is for another holder.
     Range,
     /// 6: the opening set does not determine the secrets.
     Undetermined {
@@ -104,7 +107,7 @@ pub enum Refusal {
     Mark,
     /// 9: dealing number 0 outside SH, or another one than the file's.
     DealingNumber,
-    /// 10: in a file a second SU or DL, or a second PV or VD from one holder.
+    /// 10: in a file a second SU, DL or DF, or a second PV, PF or VD from one holder.
     Repeated,
     /// 11: a file ends with a record missing.
     Missing,
@@ -116,7 +119,7 @@ pub enum Refusal {
     TooFewPoints,
     /// 16: an opened position of a board key is 256 and so no byte.
     NoByte,
-    /// 17: in a file a PV or VD that is not the next one due: the PV come by rising sender, then the VD by rising holder.
+    /// 17: in a file a PV, PF or VD that is not the next one due: the PV come by rising sender, with a DF then the PF, then the VD by rising holder.
     Order,
 }
 
@@ -198,19 +201,21 @@ fn answer(number: u16, position: u16) -> Result<(), Refusal> {
 #[derive(Clone, Copy, Debug, PartialEq, Eq, Hash)]
 #[repr(u16)]
 pub enum Verdict {
-    /// A value received differs.
+    /// A value received differs, or the check of a map fails.
     Reject = 0,
-    /// Every value received is the due one.
+    /// Every value received is the due one, and the check of a map holds.
     Accept = 1,
 }
 
 /// What a holder finds when it judges the values it received.
 #[derive(Clone, Copy, Debug, PartialEq, Eq, Hash)]
 pub enum Judgement {
-    /// Every value is the due one.
+    /// Every value is the due one; of two dealings tied by a map, the check of the map holds too.
     Accept,
-    /// A value differs; the lowest holder whose value does.
+    /// A value differs, in either dealing where there are two; the lowest holder whose value does.
     Reject(u16),
+    /// Every value of two dealings is the due one, and only the check of the map fails. [`Setup::judge`] never gives it.
+    RejectMap,
 }
 
 impl Judgement {
@@ -218,7 +223,16 @@ impl Judgement {
     pub fn verdict(self) -> Verdict {
         match self {
             Judgement::Accept => Verdict::Accept,
-            Judgement::Reject(_) => Verdict::Reject,
+            Judgement::Reject(_) | Judgement::RejectMap => Verdict::Reject,
+        }
+    }
+
+    /// From a verdict and what stands beside it.
+    fn new(verdict: u16, named: u16) -> Judgement {
+        match (verdict, named) {
+            (1, _) => Judgement::Accept,
+            (_, u16::MAX) => Judgement::RejectMap,
+            (_, holder) => Judgement::Reject(holder),
         }
     }
 }
@@ -267,7 +281,31 @@ pub struct SetJudgement {
     pub steps: u16,
 }
 
-/// The numbers of a DL record; g and h stand beside it in slices.
+/// What a dealer lends for two dealings tied by a map. It carries secrets, so it has no `Debug` and is not `Copy`.
+pub struct MappedSecrets<'a> {
+    /// ℓ · ℓ elements, position k of secret vector b at b · ℓ + k.
+    pub secrets: &'a [u16],
+    /// d · d − ℓ · ℓ elements, which the caller draws evenly from a secure source.
+    pub random: &'a [u16],
+    /// φ, the public map, ℓ · ℓ elements by rows: position k of the map of a vector is row k of φ times it.
+    pub phi: &'a [u16],
+    /// e · d elements for the second dealing, drawn as `random` and not used elsewhere.
+    pub random2: &'a [u16],
+}
+
+/// Where the parts of two dealings tied by a map are written. They carry shares, so it has no `Debug`.
+pub struct MappedParts<'a> {
+    /// g of the first dealing.
+    pub g: &'a mut [u16],
+    /// h of the first.
+    pub h: &'a mut [u16],
+    /// g of the second.
+    pub g2: &'a mut [u16],
+    /// h of the second.
+    pub h2: &'a mut [u16],
+}
+
+/// The numbers of a DL or DF record; g and h, and for DF φ, stand beside it in slices.
 #[derive(Clone, Copy, Debug, PartialEq, Eq, Hash)]
 pub struct DealingRecord {
     /// Dealing number, from 1.
@@ -276,7 +314,7 @@ pub struct DealingRecord {
     pub holder: u16,
 }
 
-/// A PV record. Its value tells of the sender's share, so it has no `Debug`.
+/// A PV or PF record. Its value tells of the sender's share, so it has no `Debug`.
 #[derive(Clone, PartialEq, Eq)]
 pub struct PairValueRecord {
     /// Dealing number, from 1.
@@ -348,6 +386,11 @@ impl Setup {
         self.d() * self.d() - self.secrets()
     }
 
+    /// e · d, the random entries of the second of two dealings tied by a map.
+    pub fn random2(&self) -> usize {
+        self.e as usize * self.d()
+    }
+
     /// Bytes of an SU record.
     pub fn setup_bytes(&self) -> usize {
         10 + 2 * self.entries()
@@ -356,6 +399,11 @@ impl Setup {
     /// Bytes of a DL record.
     pub fn dealing_bytes(&self) -> usize {
         6 + 4 * self.d()
+    }
+
+    /// Bytes of a DF record.
+    pub fn mapped_dealing_bytes(&self) -> usize {
+        self.dealing_bytes() + 2 * self.secrets()
     }
 }
 
@@ -420,6 +468,101 @@ impl Setup {
         };
         answer(number, 0)
     }
+
+    /// Writes one holder's part of two dealings tied by a map, d entries each: g and h as [`Setup::deal`] writes them, and g and h of the second, of which
+    /// every column opens to φ times that column of the first. Refusals 1 to 5.
+    pub fn deal_mapped(&self, matrix: &[u16], dealt: &MappedSecrets, holder: u16, parts: MappedParts) -> Result<(), Refusal> {
+        let Setup { p, l, e, n } = *self;
+        let MappedSecrets { secrets, random, phi, random2 } = *dealt;
+        let MappedParts { g, h, g2, h2 } = parts;
+        let number = unsafe {
+            raw::mavdrusek_deal_mapped(
+                p,
+                l,
+                e,
+                n,
+                matrix.as_ptr(),
+                matrix.len(),
+                secrets.as_ptr(),
+                secrets.len(),
+                random.as_ptr(),
+                random.len(),
+                phi.as_ptr(),
+                phi.len(),
+                random2.as_ptr(),
+                random2.len(),
+                holder,
+                g.as_mut_ptr(),
+                g.len(),
+                h.as_mut_ptr(),
+                h.len(),
+                g2.as_mut_ptr(),
+                g2.len(),
+                h2.as_mut_ptr(),
+                h2.len(),
+            )
+        };
+        answer(number, 0)
+    }
+
+    /// Writes every holder's part of both: holder i's at i · d of each slice, n · d entries each. Refusals 1 to 4.
+    ///
+    /// ```
+    /// use mavdrusek::{Judgement, MappedParts, MappedSecrets, Refusal, Setup};
+    ///
+    /// // The second secret is twice the first. A real dealer draws both lists of random entries evenly, from a secure source.
+    /// let setup = Setup { p: 7, l: 1, e: 1, n: 3 };
+    /// let mut matrix = [0; 6];
+    /// setup.points(&mut matrix)?;
+    /// let dealt = MappedSecrets { secrets: &[3], random: &[1, 5, 2], phi: &[2], random2: &[4, 1] };
+    /// let (mut gs, mut hs, mut gs2, mut hs2) = ([0; 6], [0; 6], [0; 6], [0; 6]);
+    /// setup.deal_mapped_all(&matrix, &dealt, MappedParts { g: &mut gs, h: &mut hs, g2: &mut gs2, h2: &mut hs2 })?;
+    ///
+    /// // Holder 1 judges the values of both, and the map.
+    /// let received = |gs: &[u16]| gs.chunks(setup.d()).map(|g| setup.pair_value(&matrix, g, 1)).collect::<Result<Vec<_>, _>>();
+    /// let (values, values2) = (received(&gs)?, received(&gs2)?);
+    /// assert_eq!(setup.judge_mapped(&matrix, &hs[2..4], &values, &[2], &hs2[2..4], &values2)?, Judgement::Accept);
+    /// assert_eq!(setup.judge_mapped(&matrix, &hs[2..4], &values, &[5], &hs2[2..4], &values2)?, Judgement::RejectMap);
+    ///
+    /// // Holders 0 and 2 open both.
+    /// let (mut secret, mut image) = ([0], [0]);
+    /// setup.open(&matrix, 0b101, &[gs[0], gs[4]], &mut secret)?;
+    /// setup.open(&matrix, 0b101, &[gs2[0], gs2[4]], &mut image)?;
+    /// assert_eq!((secret, image), ([3], [6]));
+    /// # Ok::<(), Refusal>(())
+    /// ```
+    pub fn deal_mapped_all(&self, matrix: &[u16], dealt: &MappedSecrets, parts: MappedParts) -> Result<(), Refusal> {
+        let Setup { p, l, e, n } = *self;
+        let MappedSecrets { secrets, random, phi, random2 } = *dealt;
+        let MappedParts { g, h, g2, h2 } = parts;
+        let number = unsafe {
+            raw::mavdrusek_deal_mapped_all(
+                p,
+                l,
+                e,
+                n,
+                matrix.as_ptr(),
+                matrix.len(),
+                secrets.as_ptr(),
+                secrets.len(),
+                random.as_ptr(),
+                random.len(),
+                phi.as_ptr(),
+                phi.len(),
+                random2.as_ptr(),
+                random2.len(),
+                g.as_mut_ptr(),
+                g.len(),
+                h.as_mut_ptr(),
+                h.len(),
+                g2.as_mut_ptr(),
+                g2.len(),
+                h2.as_mut_ptr(),
+                h2.len(),
+            )
+        };
+        answer(number, 0)
+    }
 }
 
 /// Judging.
@@ -454,7 +597,47 @@ impl Setup {
             )
         };
         answer(number, 0)?;
-        Ok(if verdict == 1 { Judgement::Accept } else { Judgement::Reject(named) })
+        Ok(Judgement::new(verdict, named))
+    }
+
+    /// The judgement of two dealings tied by the map `phi`, by the holder with column parts `h` and `h2`, on the n values that it received in each, by
+    /// sender: a rejection names the lowest sender whose value differs in either. Where all values are due, the first ℓ entries of `h2` must be the map of
+    /// those of `h`. Pair values and outcome of the second dealing are those of [`Setup::pair_value`] and [`Setup::outcome`] on its g. Refusals 1 to 4.
+    pub fn judge_mapped(
+        &self,
+        matrix: &[u16],
+        h: &[u16],
+        values: &[u16],
+        phi: &[u16],
+        h2: &[u16],
+        values2: &[u16],
+    ) -> Result<Judgement, Refusal> {
+        let Setup { p, l, e, n } = *self;
+        let (mut verdict, mut named) = (0, 0);
+        let number = unsafe {
+            raw::mavdrusek_judge_mapped(
+                p,
+                l,
+                e,
+                n,
+                matrix.as_ptr(),
+                matrix.len(),
+                h.as_ptr(),
+                h.len(),
+                values.as_ptr(),
+                values.len(),
+                phi.as_ptr(),
+                phi.len(),
+                h2.as_ptr(),
+                h2.len(),
+                values2.as_ptr(),
+                values2.len(),
+                &mut verdict,
+                &mut named,
+            )
+        };
+        answer(number, 0)?;
+        Ok(Judgement::new(verdict, named))
     }
 
     /// The outcome for the holder with row part `g` on the n verdicts that it received, by holder. If it is kept, the ℓ shares are written, one for
@@ -643,6 +826,41 @@ impl Setup {
         answer(unsafe { raw::mavdrusek_write_pair_value(p, l, e, n, dealing, sender, receiver, value, out.as_mut_ptr(), out.len()) }, 0)
     }
 
+    /// Writes a DF, [`Setup::mapped_dealing_bytes`] bytes: a holder's part of the second of two dealings, with d entries of g and h each, and the map that
+    /// ties it to the first, ℓ · ℓ. Refusals 1 to 5, 9.
+    pub fn write_mapped_dealing(&self, record: &DealingRecord, g: &[u16], h: &[u16], phi: &[u16], out: &mut [u8]) -> Result<(), Refusal> {
+        let Setup { p, l, e, n } = *self;
+        let number = unsafe {
+            raw::mavdrusek_write_mapped_dealing(
+                p,
+                l,
+                e,
+                n,
+                record.dealing,
+                record.holder,
+                g.as_ptr(),
+                g.len(),
+                h.as_ptr(),
+                h.len(),
+                phi.as_ptr(),
+                phi.len(),
+                out.as_mut_ptr(),
+                out.len(),
+            )
+        };
+        answer(number, 0)
+    }
+
+    /// Writes a PF, [`PAIR_VALUE_BYTES`] bytes. Refusals 1 to 5, 9.
+    pub fn write_mapped_pair_value(&self, record: &PairValueRecord, out: &mut [u8]) -> Result<(), Refusal> {
+        let Setup { p, l, e, n } = *self;
+        let PairValueRecord { dealing, sender, receiver, value } = *record;
+        answer(
+            unsafe { raw::mavdrusek_write_mapped_pair_value(p, l, e, n, dealing, sender, receiver, value, out.as_mut_ptr(), out.len()) },
+            0,
+        )
+    }
+
     /// Writes a VD, [`VERDICT_BYTES`] bytes. Refusals 1, 2, 3, 5, 9.
     pub fn write_verdict(&self, record: &VerdictRecord, out: &mut [u8]) -> Result<(), Refusal> {
         let Setup { p, l, e, n } = *self;
@@ -697,6 +915,54 @@ impl Setup {
         let (mut dealing, mut sender, mut receiver, mut value) = (0, 0, 0, 0);
         let number = unsafe {
             raw::mavdrusek_read_pair_value(p, l, e, n, part.as_ptr(), part.len(), &mut dealing, &mut sender, &mut receiver, &mut value)
+        };
+        answer(number, 0)?;
+        Ok(PairValueRecord { dealing, sender, receiver, value })
+    }
+
+    /// Reads a DF; g and h have d entries each, `phi` has ℓ · ℓ. Refusals 1 to 5, 8, 9.
+    pub fn read_mapped_dealing(&self, part: &[u8], g: &mut [u16], h: &mut [u16], phi: &mut [u16]) -> Result<DealingRecord, Refusal> {
+        let Setup { p, l, e, n } = *self;
+        let (mut dealing, mut holder) = (0, 0);
+        let number = unsafe {
+            raw::mavdrusek_read_mapped_dealing(
+                p,
+                l,
+                e,
+                n,
+                part.as_ptr(),
+                part.len(),
+                g.as_mut_ptr(),
+                g.len(),
+                h.as_mut_ptr(),
+                h.len(),
+                phi.as_mut_ptr(),
+                phi.len(),
+                &mut dealing,
+                &mut holder,
+            )
+        };
+        answer(number, 0)?;
+        Ok(DealingRecord { dealing, holder })
+    }
+
+    /// Reads a PF. Refusals 1 to 5, 8, 9.
+    pub fn read_mapped_pair_value(&self, part: &[u8]) -> Result<PairValueRecord, Refusal> {
+        let Setup { p, l, e, n } = *self;
+        let (mut dealing, mut sender, mut receiver, mut value) = (0, 0, 0, 0);
+        let number = unsafe {
+            raw::mavdrusek_read_mapped_pair_value(
+                p,
+                l,
+                e,
+                n,
+                part.as_ptr(),
+                part.len(),
+                &mut dealing,
+                &mut sender,
+                &mut receiver,
+                &mut value,
+            )
         };
         answer(number, 0)?;
         Ok(PairValueRecord { dealing, sender, receiver, value })
@@ -814,12 +1080,14 @@ pub struct FileContents {
     pub dealing: u16,
     /// Whose file it is.
     pub holder: u16,
-    /// What the holder finds on the values in the file.
+    /// What the holder finds on the values in the file, and with a DF on the map.
     pub judgement: Judgement,
     /// How the dealing ends on the verdicts in the file.
     pub outcome: Outcome,
     /// The ℓ shares, one for each column, where the outcome is kept; else none.
     pub shares: Vec<u16>,
+    /// Where the file has a DF: the ℓ shares of the second dealing, if the outcome is kept; else none.
+    pub mapped: Option<Vec<u16>>,
     /// What the holder program prints for the file, from the proved printer.
     pub text: String,
 }
@@ -852,9 +1120,9 @@ impl Error for FileRefusal {
 }
 
 /// Entries that a file's contents are read into.
-const CONTENTS: usize = 18;
+const CONTENTS: usize = 27;
 /// Bytes that a file's text is written into.
-const TEXT: usize = 256;
+const TEXT: usize = 512;
 
 /// What the place for the byte holds before a call. No file is so long, so it tells whether the call gave one.
 const NO_BYTE: usize = usize::MAX;
@@ -864,7 +1132,8 @@ fn file_answer(number: u16, byte: usize) -> Result<(), FileRefusal> {
     answer(number, 0).map_err(|refusal| FileRefusal { refusal, byte: (byte != NO_BYTE).then_some(byte) })
 }
 
-/// Reads a holder's file of at most [`MOST_FILE_BYTES`] bytes: an SU, the holder's DL, its n PV by rising sender and everyone's n VD by rising holder. The
+/// Reads a holder's file of at most [`MOST_FILE_BYTES`] bytes: an SU, the holder's DL, its n PV by rising sender and everyone's n VD by rising holder. Where
+/// the dealing is tied to a second one by a map, the holder's DF comes right behind the DL, and its n PF by rising sender between the PV and the VD. The
 /// first faulty record decides.
 /// Refusals 1 to 5, 8 to 13, 17.
 ///
@@ -880,11 +1149,21 @@ pub fn read_file(file: &[u8]) -> Result<FileContents, FileRefusal> {
     let number = unsafe { raw::mavdrusek_read_file(file.as_ptr(), file.len(), contents.as_mut_ptr(), contents.len(), &mut byte) };
     file_answer(number, byte)?;
     let text = text_of(file)?;
-    let [p, l, e, n, dealing, holder, accepts, rejected, kept, aborted, shares @ ..] = contents;
+    let [p, l, e, n, dealing, holder, accepts, rejected, kept, aborted, ref rest @ ..] = contents;
     let setup = Setup { p, l, e, n };
-    let judgement = if accepts == 1 { Judgement::Accept } else { Judgement::Reject(rejected) };
     let (outcome, count) = if kept == 1 { (Outcome::Kept, l as usize) } else { (Outcome::Aborted(aborted), 0) };
-    Ok(FileContents { setup, dealing, holder, judgement, outcome, shares: shares[..count].to_vec(), text })
+    // Eight places for the shares, one for whether there is a DF, eight for its shares.
+    let (shares, has_map, mapped) = (&rest[..count], rest[8] == 1, &rest[9..][..count]);
+    Ok(FileContents {
+        setup,
+        dealing,
+        holder,
+        judgement: Judgement::new(accepts, rejected),
+        outcome,
+        shares: shares.to_vec(),
+        mapped: has_map.then(|| mapped.to_vec()),
+        text,
+    })
 }
 
 /// What the proved printer gives for a file.

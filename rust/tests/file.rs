@@ -1,25 +1,51 @@
-//! The holder's file of document 01, 90 bytes, and what becomes of it when it is damaged.
+//! The holder's file of document 01, 90 bytes, the same with a second dealing tied by a map, and what becomes of them when they are damaged.
 
 use mavdrusek::*;
 
 const SETUP: Setup = Setup { p: 7, l: 1, e: 1, n: 3 };
 const MATRIX: [u16; 6] = [6, 2, 5, 3, 4, 4];
 
+/// What holder 1 has of the second dealing: the map and the values received.
+struct Second {
+    phi: u16,
+    values: [u16; 3],
+}
+
+/// The second secret is twice the first.
+const SECOND: Second = Second { phi: 2, values: [3, 4, 5] };
+
 /// Holder 1's file with these values and verdicts received.
 fn file(values: [u16; 3], verdicts: [Verdict; 3]) -> Vec<u8> {
+    file_with(values, None, verdicts)
+}
+
+/// The same, with a second dealing.
+fn mapped_file(values: [u16; 3], second: Second, verdicts: [Verdict; 3]) -> Vec<u8> {
+    file_with(values, Some(second), verdicts)
+}
+
+fn file_with(values: [u16; 3], second: Option<Second>, verdicts: [Verdict; 3]) -> Vec<u8> {
     let mut bytes = vec![0; SETUP.setup_bytes() + SETUP.dealing_bytes()];
     let (setup, dealing) = bytes.split_at_mut(SETUP.setup_bytes());
     SETUP.write_setup(&MATRIX, setup).unwrap();
     SETUP.write_dealing(&DealingRecord { dealing: 1, holder: 1 }, &[2, 4], &[4, 3], dealing).unwrap();
-    for sender in 0..3 {
+    if let Some(second) = &second {
+        let mut record = vec![0; SETUP.mapped_dealing_bytes()];
+        SETUP.write_mapped_dealing(&DealingRecord { dealing: 1, holder: 1 }, &[0, 6], &[1, 2], &[second.phi], &mut record).unwrap();
+        bytes.extend(record);
+    }
+    for (sender, value) in (0..).zip(values) {
         let mut record = [0; PAIR_VALUE_BYTES];
-        let value = values[sender as usize];
         SETUP.write_pair_value(&PairValueRecord { dealing: 1, sender, receiver: 1, value }, &mut record).unwrap();
         bytes.extend(record);
     }
-    for holder in 0..3 {
+    for (sender, value) in (0..).zip(second.into_iter().flat_map(|second| second.values)) {
+        let mut record = [0; PAIR_VALUE_BYTES];
+        SETUP.write_mapped_pair_value(&PairValueRecord { dealing: 1, sender, receiver: 1, value }, &mut record).unwrap();
+        bytes.extend(record);
+    }
+    for (holder, verdict) in (0..).zip(verdicts) {
         let mut record = [0; VERDICT_BYTES];
-        let verdict = verdicts[holder as usize];
         SETUP.write_verdict(&VerdictRecord { dealing: 1, holder, verdict }, &mut record).unwrap();
         bytes.extend(record);
     }
@@ -48,34 +74,54 @@ fn sound() {
     let found = contents(&file);
     assert_eq!((found.setup, found.dealing, found.holder), (SETUP, 1, 1));
     assert_eq!((found.judgement, found.outcome), (Judgement::Accept, Outcome::Kept));
-    assert_eq!(found.shares, [2]);
+    assert_eq!((&found.shares[..], &found.mapped), (&[2][..], &None));
     assert_eq!(found.text, "setup 7 1 1 3\ndealing 1 holder 1\nverdict accept\noutcome kept\nshare 0 2\n");
 }
 
-/// The largest sizes: eight shares, the longest text.
+#[test]
+fn sound_with_a_map() {
+    let file = mapped_file([2, 1, 0], SECOND, ACCEPT);
+    assert_eq!(file.len(), 136);
+    let found = contents(&file);
+    assert_eq!((found.setup, found.dealing, found.holder), (SETUP, 1, 1));
+    assert_eq!((found.judgement, found.outcome), (Judgement::Accept, Outcome::Kept));
+    assert_eq!((&found.shares[..], found.mapped), (&[2][..], Some(vec![0])));
+    assert_eq!(found.text, "setup 7 1 1 3\ndealing 1 holder 1\nverdict accept\noutcome kept\nshare 0 2\nmapped 0 0\n");
+}
+
+/// The largest sizes: eight shares, with a map as many again, the longest text.
 #[test]
 fn largest() {
     let setup = Setup { p: 65521, l: 8, e: 8, n: 32 };
-    let mut bytes = vec![0; setup.setup_bytes() + setup.dealing_bytes()];
-    let (first, second) = bytes.split_at_mut(setup.setup_bytes());
+    let mut start = vec![0; setup.setup_bytes() + setup.dealing_bytes()];
+    let (first, second) = start.split_at_mut(setup.setup_bytes());
     setup.write_setup(&vec![0; setup.entries()], first).unwrap();
-    let g: Vec<u16> = (65505..65521).collect();
+    let (g, g2): (Vec<u16>, Vec<u16>) = ((65505..65521).collect(), (65489..65505).collect());
     setup.write_dealing(&DealingRecord { dealing: 65535, holder: 31 }, &g, &[0; 16], second).unwrap();
+    let mut map = vec![0; setup.mapped_dealing_bytes()];
+    setup.write_mapped_dealing(&DealingRecord { dealing: 65535, holder: 31 }, &g2, &[0; 16], &[65520; 64], &mut map).unwrap();
+    let (mut pairs, mut mapped_pairs, mut verdicts) = (vec![], vec![], vec![]);
     for sender in 0..32 {
-        let mut record = [0; PAIR_VALUE_BYTES];
-        setup.write_pair_value(&PairValueRecord { dealing: 65535, sender, receiver: 31, value: 0 }, &mut record).unwrap();
-        bytes.extend(record);
-    }
-    for holder in 0..32 {
+        let (pair, mut record) = (PairValueRecord { dealing: 65535, sender, receiver: 31, value: 0 }, [0; PAIR_VALUE_BYTES]);
+        setup.write_pair_value(&pair, &mut record).unwrap();
+        pairs.extend(record);
+        setup.write_mapped_pair_value(&pair, &mut record).unwrap();
+        mapped_pairs.extend(record);
         let mut record = [0; VERDICT_BYTES];
-        setup.write_verdict(&VerdictRecord { dealing: 65535, holder, verdict: Verdict::Accept }, &mut record).unwrap();
-        bytes.extend(record);
+        setup.write_verdict(&VerdictRecord { dealing: 65535, holder: sender, verdict: Verdict::Accept }, &mut record).unwrap();
+        verdicts.extend(record);
     }
-    let found = contents(&bytes);
+    let plain = [&start[..], &pairs, &verdicts].concat();
+    let tied = [&start[..], &map, &pairs, &mapped_pairs, &verdicts].concat();
+    assert_eq!((plain.len(), tied.len()), (1680, 2198));
+    let (found, found2) = (contents(&plain), contents(&tied));
     assert_eq!((found.setup, found.dealing, found.holder), (setup, 65535, 31));
-    assert_eq!(found.shares, g[..8]);
+    assert_eq!((&found.shares[..], &found.mapped), (&g[..8], &None));
+    assert_eq!((&found2.shares[..], &found2.mapped), (&g[..8], &Some(g2[..8].to_vec())));
     let shares: String = (0..8).map(|b| format!("share {b} {}\n", g[b])).collect();
     assert_eq!(found.text, format!("setup 65521 8 8 32\ndealing 65535 holder 31\nverdict accept\noutcome kept\n{shares}"));
+    let mapped: String = (0..8).map(|b| format!("mapped {b} {}\n", g2[b])).collect();
+    assert_eq!(found2.text, found.text + &mapped);
 }
 
 /// The PV by rising sender, then the VD by rising holder: whichever two records change places, the file is refused where the first of them is due.
@@ -101,6 +147,34 @@ fn one_order() {
     assert_eq!(refused(&[&file[..46], b"VD\x01\0\x02\0\x02\0"].concat()), "refused 12 at 46");
 }
 
+/// With a DF the PF come between the PV and the VD. A DF stands right behind the DL or nowhere, and without one no PF does.
+#[test]
+fn one_order_with_a_map() {
+    let (plain, file) = (file([2, 1, 0], ACCEPT), mapped_file([2, 1, 0], SECOND, ACCEPT));
+    let places = [52, 62, 72, 82, 92, 102, 112, 120, 128, 136];
+    let records: Vec<&[u8]> = places.windows(2).map(|x| &file[x[0]..x[1]]).collect();
+    for first in 0..9 {
+        for second in first + 1..9 {
+            let mut turned = records.clone();
+            turned.swap(first, second);
+            let turned = [&file[..52], &turned.concat()].concat();
+            assert_eq!(refused(&turned), format!("refused 17 at {}", places[first]));
+        }
+        assert_eq!(refused(&[&file[..], records[first]].concat()), "refused 10 at 136");
+        assert_eq!(refused(&file[..places[first]]), format!("refused 11 at {}", places[first]));
+    }
+    let (dealing, map) = (&file[22..36], &file[36..52]);
+    assert_eq!(refused(&[&plain[..22], map, dealing].concat()), "refused 8 at 22");
+    for at in [46, 56, 66, 74, 82, 90] {
+        assert_eq!(refused(&[&plain[..at], map, &plain[at..]].concat()), format!("refused 8 at {at}"));
+    }
+    for at in places {
+        assert_eq!(refused(&[&file[..at], b"DF"].concat()), format!("refused 10 at {at}"));
+        assert_eq!(refused(&[&file[..at], dealing].concat()), format!("refused 10 at {at}"));
+    }
+    assert_eq!(refused(&[&plain[..66], records[3]].concat()), "refused 8 at 66");
+}
+
 #[test]
 fn last_verdict_gone() {
     let short = &file([2, 1, 0], ACCEPT)[..82];
@@ -115,6 +189,25 @@ fn another_value() {
     assert_eq!(found.shares, []);
     assert_eq!(found.text, "setup 7 1 1 3\ndealing 1 holder 1\nverdict reject 0\noutcome aborted 1\n");
     assert!(read_file(&file([3, 1, 0], ACCEPT)) == Err(FileRefusal { refusal: Refusal::OwnVerdict, byte: Some(90) }));
+}
+
+/// The lowest sender wrong in either dealing is named, and the map only where none is.
+#[test]
+fn another_map() {
+    for (values, second, judgement, said) in [
+        ([2, 1, 0], Second { phi: 3, ..SECOND }, Judgement::RejectMap, "map"),
+        ([2, 1, 0], Second { phi: 3, values: [3, 4, 6] }, Judgement::Reject(2), "2"),
+        ([2, 2, 0], Second { phi: 2, values: [3, 4, 6] }, Judgement::Reject(1), "1"),
+        ([2, 1, 1], Second { phi: 2, values: [4, 4, 5] }, Judgement::Reject(0), "0"),
+    ] {
+        let mut file = mapped_file(values, second, OWN_REJECTS);
+        let found = contents(&file);
+        assert_eq!((found.judgement, found.outcome), (judgement, Outcome::Aborted(1)));
+        assert_eq!((&found.shares[..], found.mapped), (&[][..], Some(vec![])));
+        assert_eq!(found.text, format!("setup 7 1 1 3\ndealing 1 holder 1\nverdict reject {said}\noutcome aborted 1\n"));
+        file[126] = 1; // the own verdict
+        assert_eq!(refused(&file), "refused 13 at 136");
+    }
 }
 
 /// Another holder's rejection: the own judgement accepts, the outcome is aborted.
@@ -145,6 +238,23 @@ fn damaged() {
         assert!(read_file(&file) == Err(FileRefusal { refusal, byte: Some(start) }), "byte {at}: {}", refused(&file));
         assert_eq!(refused(&file), format!("refused {} at {start}", refusal.number()));
     }
+    let sound_with_a_map = mapped_file([2, 1, 0], SECOND, ACCEPT);
+    for (at, byte, refusal, start) in [
+        (38, 2, Refusal::DealingNumber, 36), // another dealing's DF
+        (40, 0, Refusal::Range, 36),         // holder 0's DF
+        (42, 7, Refusal::Element, 36),
+        (48, 7, Refusal::Element, 36),
+        (50, 7, Refusal::Element, 36),       // φ
+        (84, 2, Refusal::DealingNumber, 82), // another dealing's PF
+        (88, 0, Refusal::Range, 82),         // a PF to holder 0
+        (90, 7, Refusal::Element, 82),
+        (96, 0, Refusal::Repeated, 92), // the second PF from holder 0 again
+    ] {
+        let mut file = sound_with_a_map.clone();
+        file[at] = byte;
+        assert!(read_file(&file) == Err(FileRefusal { refusal, byte: Some(start) }), "byte {at}: {}", refused(&file));
+    }
+    assert_eq!(refused(&sound_with_a_map[..51]), "refused 3 at 36");
     assert_eq!(refused(&sound[..89]), "refused 3 at 82");
     assert_eq!(refused(&[&sound[..], b"S"].concat()), "refused 3 at 90");
 }

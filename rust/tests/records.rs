@@ -44,6 +44,33 @@ fn dealing() {
 }
 
 #[test]
+fn mapped_dealing() {
+    let record = DealingRecord { dealing: 65535, holder: 3 };
+    let (g, h, phi) = ([0, 1, 256], [255, 128, 7], [256, 0, 1, 2]);
+    let mut out = vec![0; SETUP.mapped_dealing_bytes()];
+    SETUP.write_mapped_dealing(&record, &g, &h, &phi, &mut out).unwrap();
+    assert_eq!(out, b"DF\xff\xff\x03\0\0\0\x01\0\0\x01\xff\0\x80\0\x07\0\0\x01\0\0\x01\0\x02\0");
+    for part in [out.clone(), followed(&out)] {
+        let (mut back_g, mut back_h, mut back_phi) = ([9; 3], [9; 3], [9; 4]);
+        assert_eq!(SETUP.read_mapped_dealing(&part, &mut back_g, &mut back_h, &mut back_phi), Ok(record));
+        assert_eq!((back_g, back_h, back_phi), (g, h, phi));
+    }
+    assert_eq!(SETUP.read_mapped_dealing(&out[..25], &mut [9; 3], &mut [9; 3], &mut [9; 4]), Err(Refusal::Length));
+    assert_eq!(SETUP.read_dealing(&out, &mut [9; 3], &mut [9; 3]), Err(Refusal::Mark));
+}
+
+#[test]
+fn mapped_pair_value() {
+    let record = PairValueRecord { dealing: 1, sender: 2, receiver: 3, value: 256 };
+    let mut out = [0; PAIR_VALUE_BYTES];
+    SETUP.write_mapped_pair_value(&record, &mut out).unwrap();
+    assert_eq!(&out, b"PF\x01\0\x02\0\x03\0\0\x01");
+    assert!(SETUP.read_mapped_pair_value(&out) == Ok(record.clone()));
+    assert!(SETUP.read_mapped_pair_value(&followed(&out)) == Ok(record));
+    assert_eq!(SETUP.read_pair_value(&out).err(), Some(Refusal::Mark));
+}
+
+#[test]
 fn pair_value() {
     for value in [0, 1, 255, 256] {
         let record = PairValueRecord { dealing: 1, sender: 2, receiver: 3, value };
@@ -93,4 +120,6 @@ fn not_printed_not_copied() {
     <ShareRecord as Neither<_>>::neither();
     <FileContents as Neither<_>>::neither();
     <Key as Neither<_>>::neither();
+    <MappedSecrets as Neither<_>>::neither();
+    <MappedParts as Neither<_>>::neither();
 }

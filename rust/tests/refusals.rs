@@ -5,6 +5,29 @@ use mavdrusek::*;
 const SETUP: Setup = Setup { p: 7, l: 1, e: 1, n: 3 };
 const MATRIX: [u16; 6] = [6, 2, 5, 3, 4, 4];
 
+/// Deals with a map to holder 0, into slices of these lengths; a refusal leaves them.
+fn deal_mapped(setup: Setup, matrix: &[u16], dealt: MappedSecrets, lengths: [usize; 4]) -> Result<(), Refusal> {
+    mapped(lengths, |parts| setup.deal_mapped(matrix, &dealt, 0, parts))
+}
+
+/// The same to all.
+fn deal_mapped_all(setup: Setup, matrix: &[u16], dealt: MappedSecrets, lengths: [usize; 4]) -> Result<(), Refusal> {
+    mapped(lengths, |parts| setup.deal_mapped_all(matrix, &dealt, parts))
+}
+
+fn mapped(lengths: [usize; 4], deal: impl Fn(MappedParts) -> Result<(), Refusal>) -> Result<(), Refusal> {
+    let mut lent = lengths.map(|length| vec![9; length]);
+    let [g, h, g2, h2] = &mut lent;
+    let answer = deal(MappedParts { g, h, g2, h2 });
+    if answer.is_err() {
+        assert_eq!(lent, lengths.map(|length| vec![9; length]));
+    }
+    answer
+}
+
+const NOTHING: MappedSecrets = MappedSecrets { secrets: &[], random: &[], phi: &[], random2: &[] };
+const DEALT: MappedSecrets = MappedSecrets { secrets: &[3], random: &[1, 5, 2], phi: &[2], random2: &[4, 1] };
+
 #[test]
 fn numbers() {
     let all = [
@@ -56,6 +79,11 @@ fn limits() {
         assert_eq!(wrong.deal_all(&[], &[], &[], &mut [], &mut []), Err(Refusal::Limits));
         assert_eq!(wrong.pair_value(&[], &[], 0), Err(Refusal::Limits));
         assert_eq!(wrong.judge(&[], &[], &[]), Err(Refusal::Limits));
+        assert_eq!(deal_mapped(wrong, &[], NOTHING, [0; 4]), Err(Refusal::Limits));
+        assert_eq!(deal_mapped_all(wrong, &[], NOTHING, [0; 4]), Err(Refusal::Limits));
+        assert_eq!(wrong.judge_mapped(&[], &[], &[], &[], &[], &[]), Err(Refusal::Limits));
+        assert_eq!(wrong.read_mapped_pair_value(&[]).err(), Some(Refusal::Limits));
+        assert_eq!(wrong.read_mapped_dealing(&[], &mut [], &mut [], &mut []), Err(Refusal::Limits));
         assert_eq!(wrong.outcome(&[], &[], &mut []), Err(Refusal::Limits));
         assert_eq!(wrong.rehearse(&[], &[], &[]), Err(Refusal::Limits));
         assert_eq!(wrong.determines(&[], 0), Err(Refusal::Limits));
@@ -75,6 +103,9 @@ fn empty_slices() {
     assert_eq!(SETUP.deal_all(&[], &[], &[], &mut [], &mut []), Err(Refusal::Length));
     assert_eq!(SETUP.pair_value(&[], &[], 0), Err(Refusal::Length));
     assert_eq!(SETUP.judge(&[], &[], &[]), Err(Refusal::Length));
+    assert_eq!(deal_mapped(SETUP, &[], NOTHING, [0; 4]), Err(Refusal::Length));
+    assert_eq!(deal_mapped_all(SETUP, &[], NOTHING, [0; 4]), Err(Refusal::Length));
+    assert_eq!(SETUP.judge_mapped(&[], &[], &[], &[], &[], &[]), Err(Refusal::Length));
     assert_eq!(SETUP.outcome(&[], &[], &mut []), Err(Refusal::Length));
     assert_eq!(SETUP.rehearse(&[], &[], &[]), Err(Refusal::Length));
     assert_eq!(SETUP.determines(&[], 0), Err(Refusal::Length));
@@ -85,8 +116,10 @@ fn empty_slices() {
     assert_eq!(open_key(0b111_1111, &[]).err(), Some(Refusal::Length));
     assert_eq!(SETUP.write_setup(&[], &mut []), Err(Refusal::Length));
     assert_eq!(SETUP.write_dealing(&DealingRecord { dealing: 1, holder: 0 }, &[], &[], &mut []), Err(Refusal::Length));
+    assert_eq!(SETUP.write_mapped_dealing(&DealingRecord { dealing: 1, holder: 0 }, &[], &[], &[], &mut []), Err(Refusal::Length));
     let pair = PairValueRecord { dealing: 1, sender: 0, receiver: 0, value: 0 };
     assert_eq!(SETUP.write_pair_value(&pair, &mut []), Err(Refusal::Length));
+    assert_eq!(SETUP.write_mapped_pair_value(&pair, &mut []), Err(Refusal::Length));
     let verdict = VerdictRecord { dealing: 1, holder: 0, verdict: Verdict::Accept };
     assert_eq!(SETUP.write_verdict(&verdict, &mut []), Err(Refusal::Length));
     let share = ShareRecord { dealing: 1, holder: 0, column: 0, value: 0 };
@@ -95,6 +128,8 @@ fn empty_slices() {
     assert_eq!(read_setup_matrix(&[], &mut []), Err(Refusal::Length));
     assert_eq!(SETUP.read_dealing(&[], &mut [], &mut []), Err(Refusal::Length));
     assert_eq!(SETUP.read_pair_value(&[]).err(), Some(Refusal::Length));
+    assert_eq!(SETUP.read_mapped_dealing(&[], &mut [], &mut [], &mut []), Err(Refusal::Length));
+    assert_eq!(SETUP.read_mapped_pair_value(&[]).err(), Some(Refusal::Length));
     assert_eq!(SETUP.read_verdict(&[]), Err(Refusal::Length));
     assert_eq!(SETUP.read_share(&[]).err(), Some(Refusal::Length));
     assert_eq!(read_file(&[]).err(), Some(FileRefusal { refusal: Refusal::Missing, byte: Some(0) }));
@@ -119,6 +154,24 @@ fn lengths() {
     assert_eq!(SETUP.deal(&m, &[3], &[1, 5, 2], 0, &mut two, &mut [0; 3]), Err(Refusal::Length));
     assert_eq!((two, six), ([9; 2], [9; 6]));
     assert_eq!(SETUP.judge(&m, &[4, 3], &[2, 1]), Err(Refusal::Length));
+    for at in 0..4 {
+        let with = |size: usize| std::array::from_fn(|k| if k == at { size + 1 } else { size });
+        assert_eq!(deal_mapped(SETUP, &m, DEALT, with(2)), Err(Refusal::Length));
+        assert_eq!(deal_mapped_all(SETUP, &m, DEALT, with(6)), Err(Refusal::Length));
+    }
+    for dealt in [
+        MappedSecrets { secrets: &[3, 3], ..DEALT },
+        MappedSecrets { random: &[1, 5], ..DEALT },
+        MappedSecrets { phi: &[], ..DEALT },
+        MappedSecrets { phi: &[2, 2], ..DEALT },
+        MappedSecrets { random2: &[4], ..DEALT },
+        MappedSecrets { random2: &[4, 1, 4], ..DEALT },
+    ] {
+        assert_eq!(deal_mapped(SETUP, &m, dealt, [2; 4]), Err(Refusal::Length));
+    }
+    assert_eq!(SETUP.judge_mapped(&m, &[4, 3], &[2, 1, 0], &[2, 2], &[1, 2], &[3, 4, 5]), Err(Refusal::Length));
+    assert_eq!(SETUP.judge_mapped(&m, &[4, 3], &[2, 1, 0], &[2], &[1], &[3, 4, 5]), Err(Refusal::Length));
+    assert_eq!(SETUP.judge_mapped(&m, &[4, 3], &[2, 1, 0], &[2], &[1, 2], &[3, 4]), Err(Refusal::Length));
     assert_eq!(SETUP.outcome(&[2, 4], &[Verdict::Accept; 4], &mut [9]), Err(Refusal::Length));
     assert_eq!(SETUP.judge_set(&m, 0b101, 0, &mut [9; 31]), Err(Refusal::Length));
     assert_eq!(SETUP.open(&m, 0b101, &[0, 2, 4], &mut [9]), Err(Refusal::Length));
@@ -146,6 +199,15 @@ fn elements() {
     assert_eq!((g, h), ([9; 2], [9; 2]));
     assert_eq!(SETUP.pair_value(&m, &[0, 7], 0), Err(Refusal::Element));
     assert_eq!(SETUP.judge(&m, &[4, 3], &[2, 1, 7]), Err(Refusal::Element));
+    for dealt in
+        [MappedSecrets { secrets: &[7], ..DEALT }, MappedSecrets { phi: &[7], ..DEALT }, MappedSecrets { random2: &[4, 7], ..DEALT }]
+    {
+        assert_eq!(deal_mapped(SETUP, &m, dealt, [2; 4]), Err(Refusal::Element));
+    }
+    assert_eq!(deal_mapped_all(SETUP, &high, DEALT, [6; 4]), Err(Refusal::Element));
+    assert_eq!(SETUP.judge_mapped(&m, &[4, 3], &[2, 1, 0], &[7], &[1, 2], &[3, 4, 5]), Err(Refusal::Element));
+    assert_eq!(SETUP.judge_mapped(&m, &[4, 3], &[2, 1, 0], &[2], &[1, 7], &[3, 4, 5]), Err(Refusal::Element));
+    assert_eq!(SETUP.judge_mapped(&m, &[4, 3], &[2, 1, 0], &[2], &[1, 2], &[3, 4, 7]), Err(Refusal::Element));
     assert_eq!(SETUP.outcome(&[2, 7], &[Verdict::Accept; 3], &mut [9]), Err(Refusal::Element));
     assert_eq!(SETUP.rehearse(&m, &m, &high), Err(Refusal::Element));
     assert_eq!(SETUP.determines(&high, 0b111), Err(Refusal::Element));
@@ -159,6 +221,7 @@ fn ranges() {
     let m = MATRIX;
     assert_eq!(SETUP.deal(&m, &[3], &[1, 5, 2], 3, &mut [0; 2], &mut [0; 2]), Err(Refusal::Range));
     assert_eq!(SETUP.pair_value(&m, &[0, 3], 3), Err(Refusal::Range));
+    assert_eq!(mapped([2; 4], |parts| SETUP.deal_mapped(&m, &DEALT, 3, parts)), Err(Refusal::Range));
     assert_eq!(SETUP.determines(&m, 0b1000), Err(Refusal::Range));
     assert_eq!(SETUP.private(&m, 1 << 31), Err(Refusal::Range));
     let mut out = [9; 32];
@@ -218,4 +281,36 @@ fn records() {
     let mut matrix = [9; 2];
     assert_eq!(read_setup_matrix(b"SU\x07\0\x01\0\x01\0\x01\0\x01\0\x07\0", &mut matrix), Err(Refusal::Element));
     assert_eq!(matrix, [9; 2]);
+}
+
+#[test]
+fn mapped_records() {
+    let mut out = [9; PAIR_VALUE_BYTES];
+    let pair = PairValueRecord { dealing: 0, sender: 0, receiver: 0, value: 0 };
+    assert_eq!(SETUP.write_mapped_pair_value(&pair, &mut out), Err(Refusal::DealingNumber));
+    assert_eq!(SETUP.write_mapped_pair_value(&PairValueRecord { value: 7, ..pair }, &mut out), Err(Refusal::Element));
+    assert_eq!(SETUP.write_mapped_pair_value(&PairValueRecord { sender: 3, ..pair }, &mut out), Err(Refusal::Range));
+    assert_eq!(out, [9; PAIR_VALUE_BYTES]);
+
+    let mut out = [9; 16];
+    let mut write = |dealing, holder, phi: &[u16]| {
+        let answer = SETUP.write_mapped_dealing(&DealingRecord { dealing, holder }, &[0, 6], &[1, 2], phi, &mut out);
+        assert_eq!(out, [9; 16]);
+        answer
+    };
+    assert_eq!(write(0, 3, &[7, 7]), Err(Refusal::Length));
+    assert_eq!(write(0, 3, &[7]), Err(Refusal::Element));
+    assert_eq!(write(0, 3, &[2]), Err(Refusal::Range));
+    assert_eq!(write(0, 1, &[2]), Err(Refusal::DealingNumber));
+    // A DL's length is not a DF's.
+    let part = DealingRecord { dealing: 1, holder: 1 };
+    assert_eq!(SETUP.write_mapped_dealing(&part, &[0, 6], &[1, 2], &[2], &mut [9; 14]), Err(Refusal::Length));
+
+    let (mut g, mut h, mut phi) = ([9; 2], [9; 2], [9]);
+    let high = b"DF\x01\0\x01\0\0\0\x06\0\x01\0\x02\0\x07\0";
+    assert_eq!(SETUP.read_mapped_dealing(high, &mut g, &mut h, &mut phi), Err(Refusal::Element));
+    assert_eq!(SETUP.read_mapped_dealing(&high[..15], &mut g, &mut h, &mut phi), Err(Refusal::Length));
+    assert_eq!(SETUP.read_mapped_dealing(high, &mut g, &mut h, &mut [9; 2]), Err(Refusal::Length));
+    assert_eq!(SETUP.read_mapped_dealing(b"DL", &mut g, &mut h, &mut phi), Err(Refusal::Mark));
+    assert_eq!((g, h, phi), ([9; 2], [9; 2], [9]));
 }

@@ -1,11 +1,18 @@
 //! The worked example of document 01: p 7, ℓ 1, e 1, n 3, points rows (6,2), (5,3), (4,4), F rows (3,1), (5,2).
 
-use mavdrusek::{combine, Judgement, Outcome, Refusal, Rehearsal, SetJudgement, SetKind, Setup, Verdict, PRIMES};
+use mavdrusek::{
+    combine, Judgement, MappedParts, MappedSecrets, Outcome, Refusal, Rehearsal, SetJudgement, SetKind, Setup, Verdict, PRIMES,
+};
 
 const SETUP: Setup = Setup { p: 7, l: 1, e: 1, n: 3 };
 const MATRIX: [u16; 6] = [6, 2, 5, 3, 4, 4];
 const GS: [u16; 6] = [0, 3, 2, 4, 4, 5];
 const HS: [u16; 6] = [6, 6, 4, 3, 2, 0];
+
+/// The second dealing, by the map 2 and the second random entries 4, 1: F_φ has the rows (6,2), (4,1).
+const DEALT: MappedSecrets = MappedSecrets { secrets: &[3], random: &[1, 5, 2], phi: &[2], random2: &[4, 1] };
+const GS2: [u16; 6] = [2, 0, 0, 6, 5, 5];
+const HS2: [u16; 6] = [5, 5, 1, 2, 4, 6];
 
 #[test]
 fn points() {
@@ -34,6 +41,63 @@ fn pair_values_and_judgement() {
     assert_eq!(SETUP.judge(&MATRIX, &HS[2..4], &values), Ok(Judgement::Accept));
     assert_eq!(SETUP.judge(&MATRIX, &HS[2..4], &[3, 1, 0]), Ok(Judgement::Reject(0)));
     assert_eq!(SETUP.judge(&MATRIX, &HS[2..4], &[2, 1, 1]), Ok(Judgement::Reject(2)));
+}
+
+#[test]
+fn mapped_parts() {
+    let (mut gs, mut hs, mut gs2, mut hs2) = ([9; 6], [9; 6], [9; 6], [9; 6]);
+    let parts = MappedParts { g: &mut gs, h: &mut hs, g2: &mut gs2, h2: &mut hs2 };
+    assert_eq!(SETUP.deal_mapped_all(&MATRIX, &DEALT, parts), Ok(()));
+    assert_eq!((gs, hs, gs2, hs2), (GS, HS, GS2, HS2));
+    for i in 0..3 {
+        let (mut g, mut h, mut g2, mut h2) = ([9; 2], [9; 2], [9; 2], [9; 2]);
+        let parts = MappedParts { g: &mut g, h: &mut h, g2: &mut g2, h2: &mut h2 };
+        assert_eq!(SETUP.deal_mapped(&MATRIX, &DEALT, i as u16, parts), Ok(()));
+        let part = 2 * i..2 * i + 2;
+        assert_eq!((&g[..], &h[..]), (&GS[part.clone()], &HS[part.clone()]));
+        assert_eq!((&g2[..], &h2[..]), (&GS2[part.clone()], &HS2[part]));
+    }
+    assert_eq!(SETUP.rehearse(&MATRIX, &GS2, &HS2), Ok(Rehearsal::Fair));
+}
+
+/// Holder 1 on both dealings: the lowest sender wrong in either, and the map only where no sender is.
+#[test]
+fn mapped_judgement() {
+    let values: Vec<u16> = GS2.chunks(2).map(|g| SETUP.pair_value(&MATRIX, g, 1).unwrap()).collect();
+    assert_eq!(values, [3, 4, 5]);
+    let judge = |values, phi, values2| SETUP.judge_mapped(&MATRIX, &HS[2..4], values, &[phi], &HS2[2..4], values2);
+    assert_eq!(judge(&[2, 1, 0], 2, &[3, 4, 5]), Ok(Judgement::Accept));
+    assert_eq!(judge(&[2, 1, 0], 3, &[3, 4, 5]), Ok(Judgement::RejectMap));
+    assert_eq!(judge(&[2, 1, 1], 2, &[3, 4, 5]), Ok(Judgement::Reject(2)));
+    assert_eq!(judge(&[2, 1, 0], 2, &[3, 5, 5]), Ok(Judgement::Reject(1)));
+    assert_eq!(judge(&[2, 1, 1], 3, &[3, 5, 5]), Ok(Judgement::Reject(1)));
+    assert_eq!(judge(&[3, 1, 0], 3, &[3, 5, 5]), Ok(Judgement::Reject(0)));
+    assert_eq!(Judgement::RejectMap.verdict(), Verdict::Reject);
+}
+
+/// A map that is not symmetric: every column of the second opens to φ times that column of the first.
+#[test]
+fn mapped_columns() {
+    let setup = Setup { p: 257, l: 2, e: 1, n: 4 };
+    let mut matrix = vec![0; setup.entries()];
+    setup.points(&mut matrix).unwrap();
+    // columns (10, 20) and (30, 40), and the map (x, y) to (2x + 3y, 5y)
+    let dealt = MappedSecrets { secrets: &[10, 20, 30, 40], random: &[1, 2, 3, 4, 5], phi: &[2, 3, 0, 5], random2: &[6, 7, 8] };
+    let [mut gs, mut hs, mut gs2, mut hs2] = [[0; 12]; 4];
+    setup.deal_mapped_all(&matrix, &dealt, MappedParts { g: &mut gs, h: &mut hs, g2: &mut gs2, h2: &mut hs2 }).unwrap();
+    for (b, first, second) in [(0, [10, 20], [80, 100]), (1, [30, 40], [180, 200])] {
+        let open = |gs: &[u16]| {
+            let (shares, mut secrets) = ([gs[b], gs[6 + b], gs[9 + b]], [0; 2]);
+            setup.open(&matrix, 0b1101, &shares, &mut secrets).map(|()| secrets)
+        };
+        assert_eq!((open(&gs), open(&gs2)), (Ok(first), Ok(second)));
+    }
+    for i in 0..4 {
+        let received = |gs: &[u16]| gs.chunks(3).map(|g| setup.pair_value(&matrix, g, i as u16).unwrap()).collect::<Vec<_>>();
+        let (h, h2) = (&hs[3 * i..][..3], &hs2[3 * i..][..3]);
+        let judge = |phi| setup.judge_mapped(&matrix, h, &received(&gs), phi, h2, &received(&gs2));
+        assert_eq!((judge(&[2, 3, 0, 5]), judge(&[2, 0, 3, 5])), (Ok(Judgement::Accept), Ok(Judgement::RejectMap)));
+    }
 }
 
 #[test]

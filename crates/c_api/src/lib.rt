@@ -4,17 +4,20 @@ ghost use mathlib.Core.Path.{_≡_};
 ghost use mathlib.Core.List.{[]};
 ghost use Rattle.field.specs.Fields.{fieldAnswer};
 ghost use Rattle.scheme.specs.Calls.{pointsCall, pointsLeft, dealCall, dealLeftG, dealLeftH, dealAllCall, dealAllLeftG, dealAllLeftH};
-ghost use Rattle.scheme.specs.Calls.{pairValueCall, judgeCall, outcomeCall, outcomeLeft, rehearseCall, combineCall};
+ghost use Rattle.scheme.specs.Calls.{buffers, dealMappedCall, dealMappedLeft, dealMappedAllCall, dealMappedAllLeft};
+ghost use Rattle.scheme.specs.Calls.{pairValueCall, judgeCall, judgeMappedCall, outcomeCall, outcomeLeft, rehearseCall, combineCall};
 ghost use Rattle.scheme.specs.Calls.{determinesCall, privateCall, judgeSetCall, openCall, openLeft};
-ghost use Rattle.scheme.specs.Answers.{paperOpened};
+ghost use Rattle.scheme.specs.Answers.{paperJudged, paperOpened};
 ghost use Rattle.board_keys.specs.Keys.{dealKeyCall, dealKeyLeftG, dealKeyLeftH, openKeyCall, openKeyLeft};
 ghost use Rattle.record_layouts.specs.Records.{writeSetupCall, writeSetupLeft, writeDealingCall, writeDealingLeft, writePairCall, writePairLeft};
+ghost use Rattle.record_layouts.specs.Records.{writeMappedCall, writeMappedLeft, writeMappedPairCall, writeMappedPairLeft};
 ghost use Rattle.record_layouts.specs.Records.{writeVerdictCall, writeVerdictLeft, writeShareCall, writeShareLeft};
 ghost use Rattle.record_layouts.specs.Records.{readSetupCall, readMatrixCall, readMatrixLeft, readDealingCall, readDealingLeftG, readDealingLeftH};
+ghost use Rattle.record_layouts.specs.Records.{readMappedCall, readMappedLeftG, readMappedLeftH, readMappedLeftPhi, readMappedPairCall};
 ghost use Rattle.record_layouts.specs.Records.{readPairCall, readVerdictCall, readShareCall};
 ghost use Rattle.holder_file.specs.Calls.{fileContentsCall, fileContentsLeft, holderFileCall, holderFileLeft};
 ghost use Rattle.set_questions.specs.Buffer.{SetBuffer};
-ghost use Rattle.c_api.specs.Exported.{setup, place, answeredPlace, refusedPlace};
+ghost use Rattle.c_api.specs.Exported.{setup, place, namedPlace, answeredPlace, refusedPlace};
 use field::Chosen;
 use field::Field;
 use holder_file::FileGiven;
@@ -103,6 +106,78 @@ pub extern "C" fn mavdrusek_deal_all(
     scheme::declined(dealing::deal_all(s, matrix, secrets, random, gs, hs))
 }
 
+// One holder's part of a dealing and of a second one, tied to it by the map phi.
+#[no_mangle]
+pub extern "C" fn mavdrusek_deal_mapped(
+    p: u16,
+    l: u16,
+    e: u16,
+    n: u16,
+    matrix: &[u16],
+    secrets: &[u16],
+    random: &[u16],
+    phi: &[u16],
+    random2: &[u16],
+    holder: u16,
+    g: &mut [u16],
+    h: &mut [u16],
+    g2: &mut [u16],
+    h2: &mut [u16],
+) -> u16
+    ensures answer { λ r. ⌜ r ≡ dealMappedCall (setup p l e n (now (matrix .entry))) (now (secrets .entry)) (now (random .entry)) (now (phi .entry)) (now (random2 .entry)) holder (buffers (now (g .entry)) (now (h .entry)) (now (g2 .entry)) (now (h2 .entry))) .number ⌝ }
+    ensures parts { λ r. ⌜ buffers (now (g .exit)) (now (h .exit)) (now (g2 .exit)) (now (h2 .exit)) ≡ dealMappedLeft (setup p l e n (now (matrix .entry))) (now (secrets .entry)) (now (random .entry)) (now (phi .entry)) (now (random2 .entry)) holder (buffers (now (g .entry)) (now (h .entry)) (now (g2 .entry)) (now (h2 .entry))) ⌝ }
+{
+    let s = Params { p, l, e, n };
+    scheme::declined(dealing::deal_mapped(
+        s,
+        matrix,
+        secrets,
+        random,
+        phi,
+        random2,
+        holder,
+        g,
+        h,
+        g2,
+        h2,
+    ))
+}
+
+// Every holder's part of both.
+#[no_mangle]
+pub extern "C" fn mavdrusek_deal_mapped_all(
+    p: u16,
+    l: u16,
+    e: u16,
+    n: u16,
+    matrix: &[u16],
+    secrets: &[u16],
+    random: &[u16],
+    phi: &[u16],
+    random2: &[u16],
+    gs: &mut [u16],
+    hs: &mut [u16],
+    gs2: &mut [u16],
+    hs2: &mut [u16],
+) -> u16
+    ensures answer { λ r. ⌜ r ≡ dealMappedAllCall (setup p l e n (now (matrix .entry))) (now (secrets .entry)) (now (random .entry)) (now (phi .entry)) (now (random2 .entry)) (buffers (now (gs .entry)) (now (hs .entry)) (now (gs2 .entry)) (now (hs2 .entry))) .number ⌝ }
+    ensures parts { λ r. ⌜ buffers (now (gs .exit)) (now (hs .exit)) (now (gs2 .exit)) (now (hs2 .exit)) ≡ dealMappedAllLeft (setup p l e n (now (matrix .entry))) (now (secrets .entry)) (now (random .entry)) (now (phi .entry)) (now (random2 .entry)) (buffers (now (gs .entry)) (now (hs .entry)) (now (gs2 .entry)) (now (hs2 .entry))) ⌝ }
+{
+    let s = Params { p, l, e, n };
+    scheme::declined(dealing::deal_mapped_all(
+        s,
+        matrix,
+        secrets,
+        random,
+        phi,
+        random2,
+        gs,
+        hs,
+        gs2,
+        hs2,
+    ))
+}
+
 // JUDGING
 // The pair value, for holder `to`, of the holder whose row part is g.
 #[no_mangle]
@@ -128,6 +203,36 @@ pub extern "C" fn mavdrusek_pair_value(
     }
 }
 
+// A rejection and what it names.
+fn rejection(who: u16, verdict: &mut u16, named: &mut u16) -> u16
+    ensures { λ r. ⌜ r ≡ 0 ⌝ }
+    ensures { λ _. ⌜ now (verdict .exit) ≡ 0 ⌝ }
+    ensures { λ _. ⌜ now (named .exit) ≡ who ⌝ }
+{
+    *verdict = 0;
+    *named = who;
+    0
+}
+
+// A judgement's number; where only the check of the map fails it names 65535, which is no holder.
+fn judged(answer: Judged, verdict: &mut u16, named: &mut u16) -> u16
+    ensures { λ r. ⌜ r ≡ paperJudged answer .number ⌝ }
+    ensures { λ _. ⌜ now (verdict .exit) ≡ place 0 (paperJudged answer) (now (verdict .entry)) ⌝ }
+    ensures { λ _. ⌜ now (named .exit) ≡ namedPlace (paperJudged answer) (now (named .entry)) ⌝ }
+{
+    match answer {
+        Judged::As(j) => match j {
+            Judgement::Accept => {
+                *verdict = 1;
+                0
+            }
+            Judgement::Reject(i) => rejection(i, verdict, named),
+            Judgement::RejectMap => rejection(65535, verdict, named),
+        },
+        Judged::Refused(k) => k,
+    }
+}
+
 // A holder's judgement: verdict 1 accepts; 0 rejects, and names the lowest holder whose value differs.
 #[no_mangle]
 pub extern "C" fn mavdrusek_judge(
@@ -145,20 +250,34 @@ pub extern "C" fn mavdrusek_judge(
     ensures verdict { λ r. ⌜ now (verdict .exit) ≡ place 0 (judgeCall (setup p l e n (now (matrix .entry))) (now (h .entry)) (now (values .entry))) (now (verdict .entry)) ⌝ }
     ensures named { λ r. ⌜ now (named .exit) ≡ place 1 (judgeCall (setup p l e n (now (matrix .entry))) (now (h .entry)) (now (values .entry))) (now (named .entry)) ⌝ }
 {
-    match judging::judge(Params { p, l, e, n }, matrix, h, values) {
-        Judged::As(j) => match j {
-            Judgement::Accept => {
-                *verdict = 1;
-                0
-            }
-            Judgement::Reject(i) => {
-                *verdict = 0;
-                *named = i;
-                0
-            }
-        },
-        Judged::Refused(k) => k,
-    }
+    let answer = judging::judge(Params { p, l, e, n }, matrix, h, values);
+    judged(answer, verdict, named)
+}
+
+// A holder's judgement of two dealings tied by the map phi: verdict 1 accepts; 0 rejects, and names the lowest holder whose value differs in either, or
+// 65535 where only the check of the map fails.
+#[no_mangle]
+pub extern "C" fn mavdrusek_judge_mapped(
+    p: u16,
+    l: u16,
+    e: u16,
+    n: u16,
+    matrix: &[u16],
+    h: &[u16],
+    values: &[u16],
+    phi: &[u16],
+    h2: &[u16],
+    values2: &[u16],
+    verdict: &mut u16,
+    named: &mut u16,
+) -> u16
+    ensures answer { λ r. ⌜ r ≡ judgeMappedCall (setup p l e n (now (matrix .entry))) (now (h .entry)) (now (values .entry)) (now (phi .entry)) (now (h2 .entry)) (now (values2 .entry)) .number ⌝ }
+    ensures verdict { λ r. ⌜ now (verdict .exit) ≡ place 0 (judgeMappedCall (setup p l e n (now (matrix .entry))) (now (h .entry)) (now (values .entry)) (now (phi .entry)) (now (h2 .entry)) (now (values2 .entry))) (now (verdict .entry)) ⌝ }
+    ensures named { λ r. ⌜ now (named .exit) ≡ namedPlace (judgeMappedCall (setup p l e n (now (matrix .entry))) (now (h .entry)) (now (values .entry)) (now (phi .entry)) (now (h2 .entry)) (now (values2 .entry))) (now (named .entry)) ⌝ }
+{
+    let s = Params { p, l, e, n };
+    let answer = judging::judge_mapped(s, matrix, h, values, phi, h2, values2);
+    judged(answer, verdict, named)
 }
 
 // The outcome: kept 1, with the shares written; 0 where it is aborted, and the lowest holder that said reject is named.
@@ -522,6 +641,59 @@ pub extern "C" fn mavdrusek_write_share(
     scheme::declined(record_writing::write_share(Params { p, l, e, n }, x, out))
 }
 
+// Writes a DF.
+#[no_mangle]
+pub extern "C" fn mavdrusek_write_mapped_dealing(
+    p: u16,
+    l: u16,
+    e: u16,
+    n: u16,
+    dealing: u16,
+    holder: u16,
+    g: &[u16],
+    h: &[u16],
+    phi: &[u16],
+    out: &mut [u8],
+) -> u16
+    ensures answer { λ r. ⌜ r ≡ writeMappedCall (setup p l e n []) (record { dealing = dealing; holder = holder }) (now (g .entry)) (now (h .entry)) (now (phi .entry)) (now (out .entry)) .number ⌝ }
+    ensures buffer { λ r. ⌜ now (out .exit) ≡ writeMappedLeft (setup p l e n []) (record { dealing = dealing; holder = holder }) (now (g .entry)) (now (h .entry)) (now (phi .entry)) (now (out .entry)) ⌝ }
+{
+    let s = Params { p, l, e, n };
+    scheme::declined(record_writing::write_mapped_dealing(
+        s,
+        DealingRecord { dealing, holder },
+        g,
+        h,
+        phi,
+        out,
+    ))
+}
+
+// Writes a PF.
+#[no_mangle]
+pub extern "C" fn mavdrusek_write_mapped_pair_value(
+    p: u16,
+    l: u16,
+    e: u16,
+    n: u16,
+    dealing: u16,
+    sender: u16,
+    receiver: u16,
+    value: u16,
+    out: &mut [u8],
+) -> u16
+    ensures answer { λ r. ⌜ r ≡ writeMappedPairCall (setup p l e n []) (record { dealing = dealing; sender = sender; receiver = receiver; value = value }) (now (out .entry)) .number ⌝ }
+    ensures buffer { λ r. ⌜ now (out .exit) ≡ writeMappedPairLeft (setup p l e n []) (record { dealing = dealing; sender = sender; receiver = receiver; value = value }) (now (out .entry)) ⌝ }
+{
+    let x = PairRecord {
+        dealing,
+        sender,
+        receiver,
+        value,
+    };
+    scheme::declined(record_writing::write_mapped_pair_value(Params { p, l, e, n }, x, out))
+}
+
 // READING RECORDS
 // Reads the four numbers of an SU.
 #[no_mangle]
@@ -678,8 +850,70 @@ pub extern "C" fn mavdrusek_read_share(
     }
 }
 
+// Reads a DF.
+#[no_mangle]
+pub extern "C" fn mavdrusek_read_mapped_dealing(
+    p: u16,
+    l: u16,
+    e: u16,
+    n: u16,
+    part: &[u8],
+    g: &mut [u16],
+    h: &mut [u16],
+    phi: &mut [u16],
+    dealing: &mut u16,
+    holder: &mut u16,
+) -> u16
+    ensures answer { λ r. ⌜ r ≡ readMappedCall (setup p l e n []) (now (part .entry)) (now (g .entry)) (now (h .entry)) (now (phi .entry)) .number ⌝ }
+    ensures dealing { λ r. ⌜ now (dealing .exit) ≡ place 0 (readMappedCall (setup p l e n []) (now (part .entry)) (now (g .entry)) (now (h .entry)) (now (phi .entry))) (now (dealing .entry)) ⌝ }
+    ensures holder { λ r. ⌜ now (holder .exit) ≡ place 1 (readMappedCall (setup p l e n []) (now (part .entry)) (now (g .entry)) (now (h .entry)) (now (phi .entry))) (now (holder .entry)) ⌝ }
+    ensures row { λ r. ⌜ now (g .exit) ≡ readMappedLeftG (setup p l e n []) (now (part .entry)) (now (g .entry)) (now (h .entry)) (now (phi .entry)) ⌝ }
+    ensures column { λ r. ⌜ now (h .exit) ≡ readMappedLeftH (setup p l e n []) (now (part .entry)) (now (g .entry)) (now (h .entry)) (now (phi .entry)) ⌝ }
+    ensures map { λ r. ⌜ now (phi .exit) ≡ readMappedLeftPhi (setup p l e n []) (now (part .entry)) (now (g .entry)) (now (h .entry)) (now (phi .entry)) ⌝ }
+{
+    match record_reading::read_mapped_dealing(Params { p, l, e, n }, part, g, h, phi) {
+        DealingRead::Is(x) => {
+            *dealing = x.dealing;
+            *holder = x.holder;
+            0
+        }
+        DealingRead::Refused(k) => k,
+    }
+}
+
+// Reads a PF.
+#[no_mangle]
+pub extern "C" fn mavdrusek_read_mapped_pair_value(
+    p: u16,
+    l: u16,
+    e: u16,
+    n: u16,
+    part: &[u8],
+    dealing: &mut u16,
+    sender: &mut u16,
+    receiver: &mut u16,
+    value: &mut u16,
+) -> u16
+    ensures answer { λ r. ⌜ r ≡ readMappedPairCall (setup p l e n []) (now (part .entry)) .number ⌝ }
+    ensures dealing { λ r. ⌜ now (dealing .exit) ≡ place 0 (readMappedPairCall (setup p l e n []) (now (part .entry))) (now (dealing .entry)) ⌝ }
+    ensures sender { λ r. ⌜ now (sender .exit) ≡ place 1 (readMappedPairCall (setup p l e n []) (now (part .entry))) (now (sender .entry)) ⌝ }
+    ensures receiver { λ r. ⌜ now (receiver .exit) ≡ place 2 (readMappedPairCall (setup p l e n []) (now (part .entry))) (now (receiver .entry)) ⌝ }
+    ensures value { λ r. ⌜ now (value .exit) ≡ place 3 (readMappedPairCall (setup p l e n []) (now (part .entry))) (now (value .entry)) ⌝ }
+{
+    match record_reading::read_mapped_pair_value(Params { p, l, e, n }, part) {
+        PairRead::Is(x) => {
+            *dealing = x.dealing;
+            *sender = x.sender;
+            *receiver = x.receiver;
+            *value = x.value;
+            0
+        }
+        PairRead::Refused(k) => k,
+    }
+}
+
 // THE HOLDER'S FILE
-// Reads a holder's file and gives its contents as 18 numbers; a refused file gives the byte where the faulty record starts.
+// Reads a holder's file and gives its contents as 27 numbers; a refused file gives the byte where the faulty record starts.
 #[no_mangle]
 pub extern "C" fn mavdrusek_read_file(file: &[u8], contents: &mut [u16], byte: &mut usize) -> u16
     ensures answer { λ r. ⌜ r ≡ fileContentsCall (now (file .entry)) (now (contents .entry)) .number ⌝ }
@@ -696,7 +930,7 @@ pub extern "C" fn mavdrusek_read_file(file: &[u8], contents: &mut [u16], byte: &
     }
 }
 
-// Prints a holder's file into a lent buffer of 256 bytes and gives how many there are; a refused file gives the byte as above.
+// Prints a holder's file into a lent buffer of 512 bytes and gives how many there are; a refused file gives the byte as above.
 #[no_mangle]
 pub extern "C" fn mavdrusek_holder_file(
     file: &[u8],

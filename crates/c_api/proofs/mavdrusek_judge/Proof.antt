@@ -1,44 +1,24 @@
--- Each case of the call's answer is what the definition gives.
+-- What the call answers is what the definition gives; its number, its verdict and the holder named are read off that, for it names one wherever it rejects.
 use Rattle.base.specs.Rules.{Answer}
-use Rattle.c_api.specs.Exported.{place}
-use Rattle.scheme.specs.Answers.{paperJudgement, paperJudged}
+use Rattle.c_api.specs.Exported.{setup, place, namedPlace}
+use Rattle.c_api.proofs.Named.{judge-names}
 use borrow.Author.Needs.{needs}
-use mathlib.Core.Path.{sym, ap, _∙_}
+use mathlib.Core.Path.{ap, _∙_}
 use Rattle.c_api.proofs.mavdrusek_judge.Statement.{statement}
 use Rattle.c_api.proofs.mavdrusek_judge.Tie as tie
 
 judge-requires : tie.Need-judge-requires
 judge-requires c κs = search needs
 
-enum-known-j : tie.Need-enum-known-j
-enum-known-j c = search needs
-
-enum-told : tie.Need-enum-told
-enum-told c = search needs
-
-enum-known-j-2 : tie.Need-enum-known-j-2
-enum-known-j-2 c = search needs
-
-enum-known-k : tie.Need-enum-known-k
-enum-known-k c = search needs
+judged-requires : tie.Need-judged-requires
+judged-requires c κs = search needs
 
 returns : tie.Need-returns
 returns c =
-    let s = c .before .before .before .before .before .before .before .before .before in
-    let e = ap paperJudgement (sym (c .enum-told .given .1)) ∙ ap paperJudged (sym (c .before .before .before .j .given .1)) ∙ c .before .before .before .before .before .judge .ensures in
-    (ap (λ (a : Answer). a .number) e, (ap (λ (a : Answer). place 0 a (s .args .verdict .now)) e, ap (λ (a : Answer). place 1 a (s .args .named .now)) e))
-
-returns-2 : tie.Need-returns-2
-returns-2 c =
-    let s = c .before .before .before .before .before .before .before .before .before .before in
-    let e = ap paperJudgement (sym (c .before .j2 .given .1)) ∙ ap paperJudged (sym (c .before .before .before .before .j .given .1)) ∙ c .before .before .before .before .before .before .judge .ensures in
-    (ap (λ (a : Answer). a .number) e, (ap (λ (a : Answer). place 0 a (s .args .verdict .now)) e, ap (λ (a : Answer). place 1 a (s .args .named .now)) e))
-
-returns-3 : tie.Need-returns-3
-returns-3 c =
-    let s = c .before .before .before .before .before .before .before in
-    let e = ap paperJudged (sym (c .before .k .given .1)) ∙ c .before .before .before .judge .ensures in
-    (ap (λ (a : Answer). a .number) e, (ap (λ (a : Answer). place 0 a (s .args .verdict .now)) e, ap (λ (a : Answer). place 1 a (s .args .named .now)) e))
+    let s = c .before .before .before .before .before .before .before .args in
+    let e = c .before .before .before .judge .ensures in
+    let n = judge-names (setup (s .p) (s .l) (s .e) (s .n) (s .matrix .now)) (s .h .now) (s .values .now) (s .named .now) in
+    (c .judged .ensures .0 ∙ ap (λ (a : Answer). a .number) e, (c .judged .ensures .1 .0 ∙ ap (λ (a : Answer). place 0 a (s .verdict .now)) e, c .judged .ensures .1 .1 ∙ ap (λ (a : Answer). namedPlace a (s .named .now)) e ∙ n))
 
 pub mavdrusek-judge-spec : {M : Type 1} → statement M
-mavdrusek-judge-spec = tie.close (tie.spec judge-requires enum-known-j enum-told enum-known-j-2 enum-known-k returns returns-2 returns-3)
+mavdrusek-judge-spec = tie.close (tie.spec judge-requires judged-requires returns)
