@@ -18,7 +18,7 @@ use Rattle.scheme.specs.Dealing.{judgementOf, judgementMapped, shares}
 use Rattle.scheme.specs.Calls.{judgeRules, judgeMappedRules}
 use Rattle.scheme.proofs.Calls.{judge-accepts, judgeMapped-accepts}
 use Rattle.record_layouts.specs.Words.{wordsAt}
-use Rattle.record_layouts.specs.Records.{paramsAt, setupAt, setupSize, dealingSize, mappedSize, dealingG, dealingH, mappedPhi}
+use Rattle.record_layouts.specs.Records.{paramsAt, setupAt, setupSize, dealingSize, mappedSize, dealingAt, dealingG, dealingH, mappedPhi}
 use Rattle.file_records.specs.declared.PartLists.{PartLists}
 use Rattle.file_records.specs.Inner.{Small, HoldsPart}
 use Rattle.file_reading.specs.declared.Parts.{Parts}
@@ -65,7 +65,7 @@ module _ (s : List ℕ) (r : Parts) (P : PartsIn s r) where
   pub mapped-is : r .mapped ≡ true → hasMap (secondOf s) ≡ true
   mapped-is e = sym (P .mapped) ∙ e
 
-  second : r .mapped ≡ true → MappedIs S _ (secondOf s)
+  second : r .mapped ≡ true → MappedIs S (dealingAt (partOf s)) (secondOf s)
   second e = second-fair s (P .fair) (P .second) (mapped-is e)
 
   pub second-there : r .mapped ≡ true → mappedSize (setupOf p []) ≤ length (secondOf s)

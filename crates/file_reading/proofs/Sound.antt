@@ -174,9 +174,10 @@ module _ (C : Contents) (ok : InOrder C) where
       go (mapped y) o e =
           let t = bytes (mappedWords x (y .g) (y .h) (y .phi)) ++ rest in
           let c = clear (standingRules mappedLayout S t) tt
-          (mapped-fair S x (y .g) (y .h) (y .phi) rest (o .row .size) (o .column .size) (o .map .size)
-          (elements-clear (S .p) (dim S) (y .g) (o .row),
-          (elements-clear (S .p) (dim S) (y .h) (o .column), (elements-clear (S .p) (S .l * S .l) (y .phi) (o .map), numbers-clear)))) in
+          (mapped-fair S x (y .g) (y .h) (y .phi) rest (o .row .size) (o .column .size) (o .map .size) (
+            elements-clear (S .p) (dim S) (y .g) (o .row),
+            (elements-clear (S .p) (dim S) (y .h) (o .column), (elements-clear (S .p) (S .l * S .l) (y .phi) (o .map), numbers-clear)),
+          )) in
           let lists = c .1 .1 .1 in
           let same = mapped-at x (y .g) (y .h) (y .phi) rest in
           sym (map-own S x t e)
@@ -314,7 +315,7 @@ module _ (C : Contents) (ok : InOrder C) where
         (
           small,
           words-append (y .g ++ y .h) (y .phi) (words-append (y .g) (y .h) (words (dim S) (y .g) (o .row)) (words (dim S) (y .h) (o .column)))
-          (words (S .l * S .l) (y .phi) (o .map)),
+              (words (S .l * S .l) (y .phi) (o .map)),
         ),
       ),
     ),

@@ -166,7 +166,10 @@ module _ (s : List ℕ) (C : Contents) (e : readFile s ≡ whole C) where
     received-bytes =
         let end : length sent ≤ place head (records head) = nothing-behind head (records head) sent refl (sym (ap (faultAt head sent) (pass .0)) ∙ from-received .0) in
         let rest = exact head sent (unfold sent in behind (start (setupAt s) (hasMap (drop (firstByte (setupAt s)) s)))) (pass .1) end in
-        rest ∙ received-same head _ _ _ _ (λ b. sym (kind-values S tied second _ (unfold head tied in b)))
+        let v = sentAt head (S .n) sent in
+        rest
+        ∙ received-same head (sentAt head 0 sent) (sentAt head (head .n) sent) (values2 (kindAt S tied second v)) (verdictsAt head sent)
+        (λ b. unfold head S in sym (kind-values S tied second v (unfold tied in b)))
 
     -- what the records are held against is what stands in the contents
     same-head : head ≡ contents.head D

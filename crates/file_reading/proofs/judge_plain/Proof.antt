@@ -1,95 +1,144 @@
-use lib.ListN.{length, getD, set, length-set}
+-- What is judged stands in SU, DL and the PV.
+use Prim.Native.Nat.{ℕ, _+_, _-_, _*_, _≤_}
+use mathlib.Core.List.{List, []}
+use mathlib.Core.Path.{_≡_, sym, ap, subst, _∙_}
 use native.Mathlib.Omega.{arith}
-use mathlib.Core.Path.{_≡_, refl, sym, ap, _∙_}
-use Prim.Native.Nat.{ℕ, _+_, _-_, _*_, _/_, _%_, _≤_, _<_}
+use lib.ListN.{length, take, drop}
+use lib.Seq.{length-take-le}
+use Rattle.scheme.specs.declared.Params.{Params}
+use Rattle.scheme.specs.Setup.{setupOf}
+use Rattle.record_layouts.specs.Records.{dealingSize}
+use Rattle.file_records.specs.Inner.{HoldsPart}
+use Rattle.file_records.proofs.Reading.{part-is}
+use Rattle.file_reading.specs.declared.Parts.{Parts}
+use Rattle.file_reading.specs.Inner.{partOf, PartsIn}
+use Rattle.file_reading.proofs.Judged.{few, small, at-is, setup-there, dealing-there, plain-fair, plain-judged}
 use borrow.Author.Needs.{needs}
 use Rattle.file_reading.proofs.judge_plain.Statement.{statement}
 use Rattle.file_reading.proofs.judge_plain.Tie as tie
-use Rattle.file_reading.proofs.judge_plain.Reads as reads
-use Rattle.file_reading.proofs.judge_plain.Lts as lts
-use Rattle.file_records.proofs.read_matrix.Reads as read-matrix-reads
-use Rattle.file_records.proofs.read_part.Reads as read-part-reads
-use Rattle.judging.proofs.judgement.Reads as judgement-reads
 
--- src/lib.rt:249:13
+abbrev begin : tie.After-s → tie.Start
+begin c = c .before .before
+
+abbrev file : tie.After-s → List ℕ
+file c = begin c .args .file .now
+
+abbrev parts : tie.After-s → Parts
+parts c = begin c .args .parts
+
+in-order : (c : tie.After-s) → PartsIn (file c) (parts c)
+in-order c = begin c .pre .0
+
+abbrev params : tie.After-s → Params
+params c = parts c .setup
+
+-- where DL starts
+abbrev at : tie.After-s → ℕ
+at c = 10 + 2 * (params c .n * (params c .l + params c .e))
+
+part-same : (c : tie.After-s) → take (length (file c) - at c) (drop (at c) (file c)) ≡ partOf (file c)
+part-same c = part-is (file c) (at c) ∙ ap (λ (k : ℕ). drop k (file c)) (at-is (file c) (parts c) (in-order c))
+
+inside : (c : tie.After-s) → at c ≤ length (file c)
+inside c = omega (arith, setup-there (file c) (parts c) (in-order c))
+
+abbrev matrix-at : tie.After-read-matrix → tie.After-s
+matrix-at c = c .before .before .before .before
+
+abbrev part-at : tie.After-read-part → tie.After-read-matrix
+part-at c = c .before .before
+
+lists : (c : tie.After-read-part) → let a = matrix-at (part-at c) in HoldsPart (setupOf (params a) []) (partOf (file a)) (c .read-part .result)
+lists c =
+    let a = matrix-at (part-at c) in
+    subst (λ (t : List ℕ). HoldsPart (setupOf (params a) []) t (c .read-part .result)) (part-same a) (c .read-part .ensures)
+
+abbrev all-at : tie.After-values → tie.After-read-part
+all-at c = c .before .before
+
 cast-n : tie.Need-cast-n
 cast-n c = search needs
 
--- src/lib.rt:250:14
 cast-d : tie.Need-cast-d
 cast-d c = search needs
 
--- src/lib.rt:250:31
 cast-d-2 : tie.Need-cast-d-2
 cast-d-2 c = search needs
 
--- src/lib.rt:250:13
 add-d : tie.Need-add-d
 add-d c = search needs
 
--- src/lib.rt:251:15
+entries : (c : tie.After-s) → params c .n * (params c .l + params c .e) ≤ 512
+entries c = small (file c) (parts c) (in-order c) .entries
+
 mul-len : tie.Need-mul-len
-mul-len c = ?
+mul-len c = omega (arith, entries (c .before .before .before))
 
--- src/lib.rt:252:27
 mul-at : tie.Need-mul-at
-mul-at c = ?
+mul-at c = omega (arith, entries (c .before .before .before))
 
--- src/lib.rt:252:14
 add-at : tie.Need-add-at
-add-at c = ?
+add-at c = omega (arith, entries (c .before .before .before))
 
--- src/lib.rt:253:18
 read-matrix-requires : tie.Need-read-matrix-requires
-read-matrix-requires c κs = ?
+read-matrix-requires c κs =
+    let a = c .before .before .before in
+    (small (file a) (parts a) (in-order a), setup-there (file a) (parts a) (in-order a))
 
--- src/lib.rt:254:44
 sub-read-part : tie.Need-sub-read-part
-sub-read-part c = ?
+sub-read-part c = inside (matrix-at c)
 
--- src/lib.rt:254:44
 part-read-part-start : tie.Need-part-read-part-start
-part-read-part-start c = ?
+part-read-part-start c = inside (matrix-at c)
 
--- src/lib.rt:254:44
 part-read-part-end : tie.Need-part-read-part-end
 part-read-part-end c = search needs
 
--- src/lib.rt:254:9
 read-part-requires : tie.Need-read-part-requires
-read-part-requires c κs = ?
+read-part-requires c κs =
+    let a = matrix-at (c .before) in
+    let P = in-order a in
+    (small (file a) (parts a) P, subst (λ (t : List ℕ). dealingSize (setupOf (params a) []) ≤ length t) (sym (part-same a)) (dealing-there (file a) (parts a) P))
 
--- src/lib.rt:257:43
 array-share-prefix-matrix : tie.Need-array-share-prefix-matrix
-array-share-prefix-matrix c = ?
+array-share-prefix-matrix c =
+    let m = part-at (all-at c) in
+    omega (arith, entries (matrix-at m), m .read-matrix .ensures .0)
 
--- src/lib.rt:257:43
 slice-aggregate-judgement : tie.Need-slice-aggregate-judgement
-slice-aggregate-judgement c = ?
+slice-aggregate-judgement c = sym (length-take-le _ _ (array-share-prefix-matrix (c .before)))
 
--- src/lib.rt:257:59
 array-share-prefix-h : tie.Need-array-share-prefix-h
-array-share-prefix-h c = ?
+array-share-prefix-h c =
+    let l = all-at (c .before) in
+    let a = matrix-at (part-at l) in
+    omega (arith, small (file a) (parts a) (in-order a) .width, lists l .h-size)
 
--- src/lib.rt:257:59
 slice-aggregate-judgement-2 : tie.Need-slice-aggregate-judgement-2
-slice-aggregate-judgement-2 c = ?
+slice-aggregate-judgement-2 c = sym (length-take-le _ _ (array-share-prefix-h (c .before)))
 
--- src/lib.rt:257:68
 array-share-prefix-values : tie.Need-array-share-prefix-values
-array-share-prefix-values c = ?
+array-share-prefix-values c =
+    let a = matrix-at (part-at (all-at (c .before .before))) in
+    omega (arith, few (file a) (parts a) (in-order a), in-order a .values-size)
 
--- src/lib.rt:257:68
 slice-aggregate-judgement-3 : tie.Need-slice-aggregate-judgement-3
-slice-aggregate-judgement-3 c = ?
+slice-aggregate-judgement-3 c = sym (length-take-le _ _ (array-share-prefix-values (c .before)))
 
--- src/lib.rt:257:9
 judgement-requires : tie.Need-judgement-requires
-judgement-requires c κs = ?
+judgement-requires c κs =
+    let l = all-at (c .before .before .before) in
+    let m = part-at l in
+    let a = matrix-at m in
+    plain-fair (file a) (parts a) (in-order a) (m .read-matrix .result) (m .read-matrix .ensures .1) (l .read-part .result) (lists l)
 
--- src/lib.rt:244:1
 returns : tie.Need-returns
-returns c = ?
+returns c =
+    let j = c .before in
+    let l = all-at (j .before .before .before .before) in
+    let m = part-at l in
+    let a = matrix-at m in
+    plain-judged (file a) (parts a) (in-order a) (m .read-matrix .result) (m .read-matrix .ensures .1) (l .read-part .result) (lists l) (j .judgement .result) (begin a .pre .1) (j .judgement .ensures)
 
 pub judge-plain-spec : {M : Type 1} → statement M
 judge-plain-spec =
