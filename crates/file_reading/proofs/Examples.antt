@@ -4,6 +4,7 @@
 -- worked, last-gone, rejected, contradicted: document 01's four files; workedContents, rejectedContents: what the first and the third hold
 -- numbered, numberedContents: a file whose dealing number and holder differ, and what it holds
 -- tied, tiedContents: the first with a second dealing, its secret twice the first's, and what it holds
+-- untied, untiedContents: the same with another map
 use mathlib.Core.Path.{_≡_, refl}
 use mathlib.Core.List.{List, [], _∷_, _++_}
 use Prim.Native.Nat.{ℕ}
@@ -174,6 +175,27 @@ tied-file = refl
 pub tied-read : readFile tied ≡ whole tiedContents
 unfolding sum every first firstFrom tab tabFrom allBelow isField dot expected differs saidReject isKept wordsAt pairRecords pairFault verdictFault markFault recordFault faultAt reached judgementOf imageAt differsIn mapHolds judgementMapped fateOf setupFault dealingFault hasMap mappedFault ofContents ofReceived ofMapped ofDealing readFile
 tied-read = refl
+
+-- φ made 3, so that only the check of the map fails, and the own verdict 0
+abbrev pub untied : List ℕ
+untied = front ++ df 1 3 ++ pairs-sent ++ pf 0 3 ++ pf 1 4 ++ pf 2 5 ++ vd 0 1 ++ vd 1 0 ++ vd 2 1
+
+abbrev pub untiedContents : Contents
+untiedContents =
+    record {
+      setup = ex;
+      dealing = 1;
+      holder = 1;
+      g = 2 ∷ 4 ∷ [];
+      h = 4 ∷ 3 ∷ [];
+      values = 2 ∷ 1 ∷ 0 ∷ [];
+      verdicts = 1 ∷ 0 ∷ 1 ∷ [];
+      kind = mapped (record { g = 0 ∷ 6 ∷ []; h = 1 ∷ 2 ∷ []; phi = 3 ∷ []; values = 3 ∷ 4 ∷ 5 ∷ [] });
+    }
+
+pub untied-read : readFile untied ≡ whole untiedContents
+unfolding sum every first firstFrom tab tabFrom allBelow isField dot expected differs saidReject isKept wordsAt pairRecords pairFault verdictFault markFault recordFault faultAt reached judgementOf imageAt differsIn mapHolds judgementMapped fateOf setupFault dealingFault hasMap mappedFault ofContents ofReceived ofMapped ofDealing readFile
+untied-read = refl
 
 -- "DF may come right after DL only; a holder other than DL's gets 5. With a DF, n PF come by sender between PV and VD, under the refusals of PV and 17; without one, a PF
 -- gets 8. A second DF gets 10 like a second DL"; the own verdict is held against the judgement of both dealings and the map

@@ -13,7 +13,7 @@ use native.Mathlib.Omega.{arith}
 use borrow.Author.Tests.{eqb-true, not-false}
 use lib.Dec.{eqb}
 use lib.ListN.{length, getD, take, drop, length-drop, take-append-drop}
-use lib.Seq.{getD-drop, drop-drop}
+use lib.Seq.{getD-drop, drop-drop, length-take-le}
 use Rattle.base.specs.Choice.{pick}
 use Rattle.base.specs.Rules.{refusal}
 use Rattle.base.proofs.Choice.{picked}
@@ -31,7 +31,7 @@ use Rattle.file_records.specs.declared.Head.{Head}
 use Rattle.file_records.specs.Received.{records, place, faultAt, reached, sentAt, verdictsAt, received}
 use Rattle.file_records.proofs.Reading.{nothing-behind, eleven-ends, all-pass, reached-inside, values-small, values2-small, verdicts-small}
 use Rattle.file_records.proofs.Records.{exact, received-same}
-use Rattle.file_reading.specs.Contents.{Contents, OfKind, InOrder, values2, judgement, verdictOf, mappedBytes, fileBytes}
+use Rattle.file_reading.specs.Contents.{Contents, isMapped, sharesOf, OfKind, InOrder, values2, judgement, verdictOf, mappedBytes, fileBytes}
 use Rattle.file_reading.specs.Contents as contents
 use Rattle.file_reading.specs.File.{FileRead, refusedAt, whole, numberOf, byteOf, setupFault, dealingFault, hasMap, mappedRules, mappedFault, firstByte, start, headOf, kindAt, contentsOf, ofContents, orRefused, ofReceived, ofMapped, ofDealing, readFile}
 use Rattle.file_reading.specs.Sound.{Missing}
@@ -116,6 +116,18 @@ module _ (s : List ℕ) (C : Contents) (e : readFile s ≡ whole C) where
   pub whole-row : length (C .g) ≡ dim (C .setup)
   unfolding D S t
   whole-row = rw (← contents-are) (length-words t 3 (dim S))
+
+  -- and ℓ shares stand in it, and in the second part where there is one
+  pub whole-mapped : length (sharesOf (C .setup) (C .kind)) ≡ pick (isMapped (C .kind)) (C .setup .l) 0
+  unfolding D
+  whole-mapped = rw (← contents-are) (go tied)
+    where
+      v : List ℕ
+      v = sentAt head (S .n) sent
+
+      go : (b : Bool) → length (sharesOf S (kindAt S b second v)) ≡ pick (isMapped (kindAt S b second v)) (S .l) 0
+      go true = length-take-le (S .l) (dealingG S second) (omega (arith, length-words second 3 (dim S)))
+      go false = refl
 
   of-kind : (b : Bool) → tied ≡ b → OfKind S (kindAt S b second (sentAt head (S .n) sent))
   unfolding S head tied

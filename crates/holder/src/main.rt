@@ -55,7 +55,7 @@ fn write(file: &[u8], text: &[u8])
 fn print(file: &[u8])
     requires { ⌜ length (now file) ≤ 4096 ⌝ }
 {
-    let mut text = [0u8; 256];
+    let mut text = [0u8; 512];
     let count = holder_file::print_file(file, &mut text);
     write(file, &text[..count]);
 }

@@ -29,8 +29,8 @@ file-marked values (whole C) some = refl
 pub files-marked : FilesMarked
 files-marked =
     record {
-      text = λ s out. marked-by (refusal (lentFile s out 256)) _ (file-marked (λ C. length (textOf C) ∷ []) (readFile s) (file-some s));
-      contents = λ s out. marked-by (refusal (lentFile s out 18)) _ (file-marked (λ C. []) (readFile s) (file-some s));
+      text = λ s out. marked-by (refusal (lentFile s out 512)) _ (file-marked (λ C. length (textOf C) ∷ []) (readFile s) (file-some s));
+      contents = λ s out. marked-by (refusal (lentFile s out 27)) _ (file-marked (λ C. []) (readFile s) (file-some s));
     }
 
 file-answers : (s out : List ℕ) (n : ℕ) (values : Contents → List ℕ) (C : Contents) → length s ≤ 4096 → length out ≡ n → readFile s ≡ whole C
@@ -42,8 +42,8 @@ file-answers s out n values C l e w =
 pub files-answering : FilesAnswering
 files-answering =
     record {
-      text = λ s out C l e w. file-answers s out 256 (λ C. length (textOf C) ∷ []) C l e w;
-      contents = λ s out C l e w. file-answers s out 18 (λ C. []) C l e w;
+      text = λ s out C l e w. file-answers s out 512 (λ C. length (textOf C) ∷ []) C l e w;
+      contents = λ s out C l e w. file-answers s out 27 (λ C. []) C l e w;
     }
 
 is-whole : (values : Contents → List ℕ) (x : FileRead) (vs : List ℕ) → fileAnswer values x ≡ given vs → HasContents x
@@ -59,6 +59,6 @@ file-written s out n values vs b e =
 pub files-written : FilesWritten
 files-written =
     record {
-      text = λ s out vs b e. file-written s out 256 (λ C. length (textOf C) ∷ []) vs b e;
-      contents = λ s out vs b e. file-written s out 18 (λ C. []) vs b e;
+      text = λ s out vs b e. file-written s out 512 (λ C. length (textOf C) ∷ []) vs b e;
+      contents = λ s out vs b e. file-written s out 27 (λ C. []) vs b e;
     }

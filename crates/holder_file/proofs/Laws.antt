@@ -11,6 +11,7 @@ use Rattle.base.specs.Choice.{pick}
 use Rattle.base.specs.Rules.{refusal, Answer, refused, given, answerBy, leftBy}
 use Rattle.base.specs.Search.{first}
 use Rattle.base.specs.Fill.{laid}
+use Rattle.base.proofs.Choice.{picked}
 use Rattle.base.proofs.Rules.{clear, declined, unchanged, accepted, written}
 use Rattle.base.proofs.Fill.{tab-is, laid-whole}
 use Rattle.scheme.specs.declared.Fate.the-variants.{Kept, Aborted}
@@ -21,36 +22,54 @@ use Rattle.file_text.specs.Text.{Printed}
 use Rattle.file_text.specs.Lines.{setupLine, dealingLine, verdictLine, outcomeLine, keptLines, printed}
 use Rattle.file_reading.specs.declared.Reading.{Reading}
 use Rattle.file_reading.specs.declared.Told.{Told}
-use Rattle.file_reading.specs.Contents.{Contents, judgement, fate}
+use Rattle.file_reading.specs.Contents.{Contents, isMapped, sharesOf, judgement, fate}
 use Rattle.file_reading.specs.File.{FileRead, refusedAt, whole, readFile, numberOf, byteOf, told, eight}
 use Rattle.file_reading.specs.Inner.{Tells}
-use Rattle.file_reading.proofs.Whole.{HasContents, file-some, file-inside, whole-is-setup, whole-row}
+use Rattle.file_reading.proofs.Whole.{HasContents, file-some, file-inside, whole-is-setup, whole-row, whole-mapped}
 use Rattle.holder_file.specs.Text.{textOf, lineOf}
 use Rattle.holder_file.specs.Calls.{atByte, fileAnswer, fileLeft, lentFile, judged, settled, numbers}
 
 -- WHAT A FILE TELLS IS PRINTED AS ITS TEXT
-module _ (C : Contents) (l : C .setup .l ≤ 8) (m : C .setup .l ≤ length (C .g)) where
-  pub told-eight : length (told C .shares) ≡ 8
-  told-eight = go (isKept (C .setup) (C .verdicts))
-    where
-      go : (b : Bool) → length (eight (pick b (take (C .setup .l) (C .g)) [])) ≡ 8
-      go true =
-          let k = length-take-le (C .setup .l) (C .g) m in
-          omega (arith, length-append (take (C .setup .l) (C .g)) (replicate (8 - length (take (C .setup .l) (C .g))) 0), length-replicate {A = ℕ} (8 - length (take (C .setup .l) (C .g))) 0, k)
-      go false = refl
+eight-long : (xs : List ℕ) → length xs ≤ 8 → length (eight xs) ≡ 8
+eight-long xs l = omega (arith, length-append xs (replicate (8 - length xs) 0), length-replicate {A = ℕ} (8 - length xs) 0)
 
-  kept-told : keptLines (fate C) (take (C .setup .l) (told C .shares)) ≡ keptLines (fate C) (take (C .setup .l) (C .g))
+module _ (C : Contents) (l : C .setup .l ≤ 8) (m : C .setup .l ≤ length (C .g))
+    (n : length (sharesOf (C .setup) (C .kind)) ≡ pick (isMapped (C .kind)) (C .setup .l) 0) where
+  abbrev xs : List ℕ
+  xs = take (C .setup .l) (C .g)
+
+  abbrev ys : List ℕ
+  ys = sharesOf (C .setup) (C .kind)
+
+  xs-long : length xs ≡ C .setup .l
+  xs-long = length-take-le (C .setup .l) (C .g) m
+
+  ys-short : length ys ≤ 8
+  ys-short = omega (arith, n, picked (λ k. k ≤ C .setup .l) (isMapped (C .kind)) (C .setup .l) 0 (omega arith) (omega arith))
+
+  pub told-eight : (length (told C .shares) ≡ 8) × (length (told C .shares2) ≡ 8)
+  told-eight =
+      let b = isKept (C .setup) (C .verdicts) in
+      (picked (λ z. length (eight z) ≡ 8) b xs [] (eight-long xs (omega (arith, xs-long))) refl, picked (λ z. length (eight z) ≡ 8) b ys [] (eight-long ys ys-short) refl)
+
+  kept-told : keptLines (fate C) (take (C .setup .l) (told C .shares)) (take (pick (isMapped (C .kind)) (C .setup .l) 0) (told C .shares2)) ≡ keptLines (fate C) xs ys
   unfolding fateOf keptLines
   kept-told = go (isKept (C .setup) (C .verdicts))
     where
       i : ℕ
       i = first (saidReject (C .verdicts)) (C .setup .n)
 
-      go : (b : Bool) → keptLines (pick b Kept (Aborted i)) (take (C .setup .l) (eight (pick b (take (C .setup .l) (C .g)) []))) ≡ keptLines (pick b Kept (Aborted i)) (take (C .setup .l) (C .g))
-      go true = ap (keptLines Kept) (take-at (take (C .setup .l) (C .g)) _ (C .setup .l) (length-take-le (C .setup .l) (C .g) m))
+      k : ℕ
+      k = pick (isMapped (C .kind)) (C .setup .l) 0
+
+      go : (b : Bool) → keptLines (pick b Kept (Aborted i)) (take (C .setup .l) (eight (pick b xs []))) (take k (eight (pick b ys []))) ≡ keptLines (pick b Kept (Aborted i)) xs ys
+      go true =
+          ap (λ (z : List ℕ). keptLines Kept z (take k (eight ys))) (take-at xs _ (C .setup .l) xs-long)
+          ∙ ap (keptLines Kept xs) (take-at ys _ k n)
       go false = refl
 
-  pub text-told : printed (setupOf (told C .setup) []) (C .dealing) (C .holder) (judgement C) (fate C) (take (C .setup .l) (told C .shares)) ≡ textOf C
+  pub text-told : printed (setupOf (told C .setup) []) (C .dealing) (C .holder) (judgement C) (fate C) (take (C .setup .l) (told C .shares))
+      (take (pick (isMapped (C .kind)) (C .setup .l) 0) (told C .shares2)) ≡ textOf C
   unfolding textOf
   text-told =
       let S = C .setup in
@@ -147,14 +166,20 @@ module _ (s : List ℕ) (r : Reading) (w : Tells (readFile s) r) (z : r .refusal
   pub secrets-in : contents .contents .setup .l ≤ length (contents .contents .g)
   secrets-in = omega (arith, whole-row s (contents .contents) (contents .is))
 
-  pub told-text : printed (setupOf (r .told .setup) []) (r .told .dealing) (r .told .holder) (r .told .outcome .judgement) (r .told .outcome .fate) (take (r .told .setup .l) (r .told .shares))
+  second-in : let C = contents .contents in length (sharesOf (C .setup) (C .kind)) ≡ pick (isMapped (C .kind)) (C .setup .l) 0
+  second-in = whole-mapped s (contents .contents) (contents .is)
+
+  pub told-text : let t = r .told in
+      printed (setupOf (t .setup) []) (t .dealing) (t .holder) (t .outcome .judgement) (t .outcome .fate) (take (t .setup .l) (t .shares))
+      (take (pick (t .mapped) (t .setup .l) 0) (t .shares2))
       ≡ textOf (contents .contents)
   told-text =
-      ap (λ (u : Told). printed (setupOf (u .setup) []) (u .dealing) (u .holder) (u .outcome .judgement) (u .outcome .fate) (take (u .setup .l) (u .shares))) told-is
-      ∙ text-told (contents .contents) secrets-few secrets-in
+      ap (λ (u : Told). printed (setupOf (u .setup) []) (u .dealing) (u .holder) (u .outcome .judgement) (u .outcome .fate) (take (u .setup .l) (u .shares))
+      (take (pick (u .mapped) (u .setup .l) 0) (u .shares2))) told-is
+      ∙ text-told (contents .contents) secrets-few secrets-in second-in
 
-  pub told-fits : (r .told .setup .l ≤ 8) × (length (r .told .shares) ≡ 8)
-  told-fits = rw told-is (secrets-few, told-eight (contents .contents) secrets-few secrets-in)
+  pub told-fits : (r .told .setup .l ≤ 8) × ((length (r .told .shares) ≡ 8) × (length (r .told .shares2) ≡ 8))
+  told-fits = rw told-is (secrets-few, told-eight (contents .contents) secrets-few secrets-in second-in)
 
 -- THE NUMBERS
 -- a list of eight entries, entry by entry
@@ -171,12 +196,21 @@ eight-entries (a ∷ b ∷ c ∷ d ∷ e ∷ f ∷ []) l = absurd (omega arith)
 eight-entries (a ∷ b ∷ c ∷ d ∷ e ∷ f ∷ g ∷ []) l = absurd (omega arith)
 eight-entries (a ∷ b ∷ c ∷ d ∷ e ∷ f ∷ g ∷ h ∷ i ∷ x) l = absurd (omega arith)
 
-pub numbers-told : (t : Told) (a b c d : ℕ) → length (t .shares) ≡ 8 → judged (t .outcome .judgement) ≡ a ∷ b ∷ [] → settled (t .outcome .fate) ≡ c ∷ d ∷ []
+pub numbers-told : (t : Told) (a b c d m : ℕ) → length (t .shares) ≡ 8 → length (t .shares2) ≡ 8 → judged (t .outcome .judgement) ≡ a ∷ b ∷ []
+    → settled (t .outcome .fate) ≡ c ∷ d ∷ [] → m ≡ pick (t .mapped) 1 0
     → let x = t .shares in
+    let y = t .shares2 in
     t .setup .p ∷ t .setup .l ∷ t .setup .e ∷ t .setup .n ∷ t .dealing ∷ t .holder ∷ a ∷ b ∷ c ∷ d
-    ∷ getD x 0 0 ∷ getD x 1 0 ∷ getD x 2 0 ∷ getD x 3 0 ∷ getD x 4 0 ∷ getD x 5 0 ∷ getD x 6 0 ∷ getD x 7 0 ∷ []
+    ∷ getD x 0 0 ∷ getD x 1 0 ∷ getD x 2 0 ∷ getD x 3 0 ∷ getD x 4 0 ∷ getD x 5 0 ∷ getD x 6 0 ∷ getD x 7 0 ∷ m
+    ∷ getD y 0 0 ∷ getD y 1 0 ∷ getD y 2 0 ∷ getD y 3 0 ∷ getD y 4 0 ∷ getD y 5 0 ∷ getD y 6 0 ∷ getD y 7 0 ∷ []
     ≡ numbers t
-numbers-told t a b c d l e f = rw (e, f) (ap (λ (x : List ℕ). t .setup .p ∷ t .setup .l ∷ t .setup .e ∷ t .setup .n ∷ t .dealing ∷ t .holder ∷ a ∷ b ∷ c ∷ d ∷ x) (eight-entries (t .shares) l))
+numbers-told t a b c d m l k e f g =
+    let x = t .shares in
+    let y = t .shares2 in
+    let front : List ℕ → List ℕ = λ z. t .setup .p ∷ t .setup .l ∷ t .setup .e ∷ t .setup .n ∷ t .dealing ∷ t .holder ∷ a ∷ b ∷ c ∷ d ∷ z in
+    rw (e, f, ← g)
+    (ap (λ (z : List ℕ). front (getD x 0 0 ∷ getD x 1 0 ∷ getD x 2 0 ∷ getD x 3 0 ∷ getD x 4 0 ∷ getD x 5 0 ∷ getD x 6 0 ∷ getD x 7 0 ∷ m ∷ z)) (eight-entries y k)
+    ∙ ap (λ (z : List ℕ). front (z ++ (m ∷ y))) (eight-entries x l))
 
 -- a list written over the whole of another of its length
 pub copied : (xs old : List ℕ) (n : ℕ) → length xs ≡ n → length old ≡ n → laid (λ j. getD xs (0 + j) 0) 0 n old ≡ xs

@@ -22,8 +22,8 @@ pub record FilesMarked : Type 0 where
 
 -- "It reads at most 4,096 bytes"
 pub record FilesAnswering : Type 0 where
-  pub text : (s out : List ℕ) (C : Contents) → length s ≤ 4096 → length out ≡ 256 → readFile s ≡ whole C → Answers (holderFileCall s out)
-  pub contents : (s out : List ℕ) (C : Contents) → length s ≤ 4096 → length out ≡ 18 → readFile s ≡ whole C → Answers (fileContentsCall s out)
+  pub text : (s out : List ℕ) (C : Contents) → length s ≤ 4096 → length out ≡ 512 → readFile s ≡ whole C → Answers (holderFileCall s out)
+  pub contents : (s out : List ℕ) (C : Contents) → length s ≤ 4096 → length out ≡ 27 → readFile s ≡ whole C → Answers (fileContentsCall s out)
 
 -- "an accepted file's bytes follow from its contents" (document 02, A2): one that prints no refusal
 pub record IsWritten (s : List ℕ) : Type 0 where

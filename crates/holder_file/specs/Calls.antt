@@ -2,18 +2,20 @@
 -- position.
 -- atByte: a refusal at a byte
 -- fileAnswer, fileLeft: the answer and a lent buffer by what is read
--- holderFileRules, holderFileCall, holderFileLeft: the text into a lent buffer of 256 bytes; it stands at its start, and what is behind it stays
--- judged, settled: the verdict and the outcome as two numbers each, 1 and 0, or 0 and the holder named
--- numbers: what a file tells, as 18 numbers: p, ℓ, e, n, dealing number, holder, verdict, outcome, eight shares
+-- holderFileRules, holderFileCall, holderFileLeft: the text into a lent buffer of 512 bytes; it stands at its start, and what is behind it stays
+-- judged, settled: the verdict and the outcome as two numbers each, 1 and 0, or 0 and the holder named; `reject map` as 0 and 65535, which is no holder
+-- numbers: what a file tells, as 27 numbers: p, ℓ, e, n, dealing number, holder, verdict, outcome, eight shares, 1 or 0 for a DF or none, eight shares of the second
+-- dealing
 -- fileContentsRules, fileContentsCall, fileContentsLeft: those numbers into a lent buffer
 use mathlib.Core.Bool.{false, not}
 use mathlib.Core.List.{List, [], _∷_, _++_}
 use Prim.Native.Nat.{ℕ}
 use lib.Dec.{eqb, ltb}
 use lib.ListN.{length, drop}
+use Rattle.base.specs.Choice.{pick}
 use Rattle.base.specs.Rules.{Rule, _when_, refusal, Answer, refused, given, answerBy, leftBy}
 use Rattle.scheme.specs.declared.Judgement.{Judgement}
-use Rattle.scheme.specs.declared.Judgement.the-variants.{Accept, Reject}
+use Rattle.scheme.specs.declared.Judgement.the-variants.{Accept, Reject, RejectMap}
 use Rattle.scheme.specs.declared.Fate.{Fate}
 use Rattle.scheme.specs.declared.Fate.the-variants.{Kept, Aborted}
 use Rattle.file_reading.specs.declared.Told.{Told}
@@ -42,10 +44,10 @@ lentFile s out needed = (3 when ltb 4096 (length s)) ∷ (3 when not (eqb (lengt
 
 -- THE TEXT
 abbrev pub holderFileCall : List ℕ → List ℕ → Answer
-holderFileCall s out = answerBy (refusal (lentFile s out 256)) (fileAnswer (λ C. length (textOf C) ∷ []) (readFile s))
+holderFileCall s out = answerBy (refusal (lentFile s out 512)) (fileAnswer (λ C. length (textOf C) ∷ []) (readFile s))
 
 abbrev pub holderFileLeft : List ℕ → List ℕ → List ℕ
-holderFileLeft s out = leftBy (refusal (lentFile s out 256)) (fileLeft (λ C. textOf C ++ drop (length (textOf C)) out) (readFile s) out) out
+holderFileLeft s out = leftBy (refusal (lentFile s out 512)) (fileLeft (λ C. textOf C ++ drop (length (textOf C)) out) (readFile s) out) out
 
 abbrev pub paperPrinting : Printing → Answer
 paperPrinting (printing.Bytes n) = given (n ∷ [])
@@ -56,6 +58,7 @@ paperPrinting (printing.Refused k) = refused k
 abbrev pub judged : Judgement → List ℕ
 judged Accept = 1 ∷ 0 ∷ []
 judged (Reject j) = 0 ∷ j ∷ []
+judged RejectMap = 0 ∷ 65535 ∷ []
 
 abbrev pub settled : Fate → List ℕ
 settled Kept = 1 ∷ 0 ∷ []
@@ -63,13 +66,14 @@ settled (Aborted i) = 0 ∷ i ∷ []
 
 abbrev pub numbers : Told → List ℕ
 numbers t =
-    t .setup .p ∷ t .setup .l ∷ t .setup .e ∷ t .setup .n ∷ t .dealing ∷ t .holder ∷ judged (t .outcome .judgement) ++ settled (t .outcome .fate) ++ t .shares
+    t .setup .p ∷ t .setup .l ∷ t .setup .e ∷ t .setup .n ∷ t .dealing ∷ t .holder
+    ∷ judged (t .outcome .judgement) ++ (settled (t .outcome .fate) ++ (t .shares ++ (pick (t .mapped) 1 0 ∷ t .shares2)))
 
 abbrev pub fileContentsCall : List ℕ → List ℕ → Answer
-fileContentsCall s out = answerBy (refusal (lentFile s out 18)) (fileAnswer (λ C. []) (readFile s))
+fileContentsCall s out = answerBy (refusal (lentFile s out 27)) (fileAnswer (λ C. []) (readFile s))
 
 abbrev pub fileContentsLeft : List ℕ → List ℕ → List ℕ
-fileContentsLeft s out = leftBy (refusal (lentFile s out 18)) (fileLeft (λ C. numbers (told C)) (readFile s) out) out
+fileContentsLeft s out = leftBy (refusal (lentFile s out 27)) (fileLeft (λ C. numbers (told C)) (readFile s) out) out
 
 abbrev pub paperGiven : FileGiven → Answer
 paperGiven fileGiven.Given = given []

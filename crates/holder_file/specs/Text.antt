@@ -1,15 +1,16 @@
--- What is printed of a holder's file (document 01, "The holder program on paper").
+-- What is printed of a holder's file (document 01, "The holder program on paper"; document 02, A7: "Kept shares of the second print last, as `mapped` with column and
+-- value").
 -- textOf: the text of its contents
 -- lineOf: the same, or the line of a refusal; fileText: of the file
 use mathlib.Core.List.{List}
 use Prim.Native.Nat.{ℕ}
 use Rattle.scheme.specs.Dealing.{shares}
 use Rattle.file_text.specs.Lines.{printed, refusedText}
-use Rattle.file_reading.specs.Contents.{Contents, judgement, fate}
+use Rattle.file_reading.specs.Contents.{Contents, sharesOf, judgement, fate}
 use Rattle.file_reading.specs.File.{FileRead, refusedAt, whole, readFile}
 
 unfoldable pub textOf : Contents → List ℕ
-textOf C = printed (C .setup) (C .dealing) (C .holder) (judgement C) (fate C) (shares (C .setup) (C .g))
+textOf C = printed (C .setup) (C .dealing) (C .holder) (judgement C) (fate C) (shares (C .setup) (C .g)) (sharesOf (C .setup) (C .kind))
 
 -- "A refused file prints only `refused N at B`"
 abbrev pub lineOf : FileRead → List ℕ

@@ -6,6 +6,7 @@ ghost use lib.ListN.{length};
 ghost use Rattle.base.specs.Rules.{refusal};
 ghost use Rattle.file_text.specs.Text.{Printed};
 ghost use Rattle.holder_file.specs.Text.{fileText};
+ghost use Rattle.base.specs.Choice.{pick};
 ghost use Rattle.holder_file.specs.Calls.{lentFile, holderFileCall, holderFileLeft, paperPrinting, judged, settled, numbers, fileContentsCall, fileContentsLeft, paperGiven};
 use file_reading::Told;
 use scheme::Fate;
@@ -35,12 +36,21 @@ fn lent_refusal(file: &[u8], room: usize, needed: usize) -> u16
     if room != needed { 3 } else { 0 }
 }
 
-// Prints a holder's file of at most 4,096 bytes into a lent buffer of 256.
+// How many lines the second dealing has.
+fn mapped_lines(t: Told) -> usize
+    ensures { λ r. ⌜ r ≡ pick (t .mapped) (t .setup .l) 0 ⌝ }
+{
+    let mapped = t.mapped;
+    let s = t.setup;
+    if mapped { s.l as usize } else { 0 }
+}
+
+// Prints a holder's file of at most 4,096 bytes into a lent buffer of 512.
 pub fn holder_file(file: &[u8], out: &mut [u8]) -> Printing
     ensures answer { λ r. ⌜ paperPrinting r ≡ holderFileCall (now (file .entry)) (now (out .entry)) ⌝ }
     ensures buffer { λ _. ⌜ now (out .exit) ≡ holderFileLeft (now (file .entry)) (now (out .entry)) ⌝ }
 {
-    let refusal = lent_refusal(file, out.len(), 256);
+    let refusal = lent_refusal(file, out.len(), 512);
     if refusal != 0 {
         return Printing::Refused(refusal);
     }
@@ -53,14 +63,24 @@ pub fn holder_file(file: &[u8], out: &mut [u8]) -> Printing
     let s = t.setup;
     let outcome = t.outcome;
     let shares = t.shares;
+    let shares2 = t.shares2;
     let l = s.l as usize;
-    let count = file_text::print_told(s, t.dealing, t.holder, outcome, &shares[..l], out);
+    let m = mapped_lines(t);
+    let count = file_text::print_told(
+        s,
+        t.dealing,
+        t.holder,
+        outcome,
+        &shares[..l],
+        &shares2[..m],
+        out,
+    );
     Printing::Bytes(count)
 }
 
 // What the holder program prints of a file: its text, or the line of its refusal.
 pub fn print_file(file: &[u8], out: &mut [u8]) -> usize
-    requires { ⌜ (length (now file) ≤ 4096) × (length (now out) ≡ 256) ⌝ }
+    requires { ⌜ (length (now file) ≤ 4096) × (length (now out) ≡ 512) ⌝ }
     ensures { λ r. ⌜ Printed (now (out .entry)) (fileText (now (file .entry))) (now (out .exit)) r ⌝ }
 {
     match holder_file(file, out) {
@@ -70,7 +90,7 @@ pub fn print_file(file: &[u8], out: &mut [u8]) -> usize
     }
 }
 
-// A verdict or an outcome as two numbers: 1 and 0, or 0 and the holder named.
+// A verdict or an outcome as two numbers: 1 and 0, or 0 and the holder named, or 0 and 65535 where only the check of the map fails.
 pub struct Said {
     pub yes: u16,
     pub named: u16,
@@ -82,6 +102,10 @@ fn verdict_said(judgement: Judgement) -> Said
     match judgement {
         Judgement::Accept => Said { yes: 1, named: 0 },
         Judgement::Reject(j) => Said { yes: 0, named: j },
+        Judgement::RejectMap => Said {
+            yes: 0,
+            named: 65535,
+        },
     }
 }
 
@@ -94,10 +118,16 @@ fn outcome_said(fate: Fate) -> Said
     }
 }
 
+fn mapped_said(mapped: bool) -> u16
+    ensures { λ r. ⌜ r ≡ pick mapped 1 0 ⌝ }
+{
+    if mapped { 1 } else { 0 }
+}
+
 // What a file tells, as numbers.
-fn tell_numbers(t: Told) -> [u16; 18]
-    requires { ⌜ length (t .shares) ≡ 8 ⌝ }
-    ensures { λ r. ⌜ (r ≡ numbers t) × (length r ≡ 18) ⌝ }
+fn tell_numbers(t: Told) -> [u16; 27]
+    requires { ⌜ (length (t .shares) ≡ 8) × (length (t .shares2) ≡ 8) ⌝ }
+    ensures { λ r. ⌜ (r ≡ numbers t) × (length r ≡ 27) ⌝ }
 {
     let s = t.setup;
     let outcome = t.outcome;
@@ -106,6 +136,8 @@ fn tell_numbers(t: Told) -> [u16; 18]
     let x = t.shares;
     let a = verdict_said(judgement);
     let b = outcome_said(fate);
+    let m = mapped_said(t.mapped);
+    let y = t.shares2;
     [
         s.p,
         s.l,
@@ -125,15 +157,24 @@ fn tell_numbers(t: Told) -> [u16; 18]
         x[5],
         x[6],
         x[7],
+        m,
+        y[0],
+        y[1],
+        y[2],
+        y[3],
+        y[4],
+        y[5],
+        y[6],
+        y[7],
     ]
 }
 
-// The contents of a holder's file of at most 4,096 bytes, as 18 numbers into a lent buffer.
+// The contents of a holder's file of at most 4,096 bytes, as 27 numbers into a lent buffer.
 pub fn file_contents(file: &[u8], contents: &mut [u16]) -> FileGiven
     ensures answer { λ r. ⌜ paperGiven r ≡ fileContentsCall (now (file .entry)) (now (contents .entry)) ⌝ }
     ensures buffer { λ _. ⌜ now (contents .exit) ≡ fileContentsLeft (now (file .entry)) (now (contents .entry)) ⌝ }
 {
-    let refusal = lent_refusal(file, contents.len(), 18);
+    let refusal = lent_refusal(file, contents.len(), 27);
     if refusal != 0 {
         return FileGiven::Refused(refusal);
     }
@@ -144,6 +185,6 @@ pub fn file_contents(file: &[u8], contents: &mut [u16]) -> FileGiven
     }
     let told = r.told;
     let all = tell_numbers(told);
-    base::copy(contents, 0, &all, 0, 18);
+    base::copy(contents, 0, &all, 0, 27);
     FileGiven::Given
 }

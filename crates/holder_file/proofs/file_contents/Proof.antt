@@ -23,7 +23,7 @@ abbrev buffer : tie.After-lent-refusal → List ℕ
 buffer c = start c .args .contents .now
 
 abbrev declines : tie.After-lent-refusal → ℕ
-declines c = refusal (lentFile (file c) (buffer c) 18)
+declines c = refusal (lentFile (file c) (buffer c) 27)
 
 lent : (c : tie.After-lent-refusal) → c .lent-refusal .result ≡ declines c
 lent c = c .lent-refusal .ensures (buffer c) refl
@@ -37,16 +37,16 @@ lent-refusal-requires c κs = search needs
 returns : tie.Need-returns
 returns c =
     let l = c .before in
-    lent-declined (file l) (buffer l) 18 (λ D. []) (λ D. numbers (told D)) _ (lent l) (c .if1 .taken)
+    lent-declined (file l) (buffer l) 27 (λ D. []) (λ D. numbers (told D)) _ (lent l) (c .if1 .taken)
 
 read-file-requires : tie.Need-read-file-requires
-read-file-requires c κs = lent-means (file (c .before)) (buffer (c .before)) 18 (fair c) .0
+read-file-requires c κs = lent-means (file (c .before)) (buffer (c .before)) 27 (fair c) .0
 
 returns-2 : tie.Need-returns-2
 returns-2 c =
     let read = c .before in
     let l = read .before .before in
-    file-declined (file l) (buffer l) 18 (λ D. []) (λ D. numbers (told D)) _ (fair (read .before)) (read .read-file .ensures) (c .if2 .taken)
+    file-declined (file l) (buffer l) 27 (λ D. []) (λ D. numbers (told D)) _ (fair (read .before)) (read .read-file .ensures) (c .if2 .taken)
 
 -- a file that was read to its end
 abbrev whole : tie.After-told → tie.Else2
@@ -65,7 +65,7 @@ copy-requires : tie.Need-copy-requires
 copy-requires c κs =
     let numbered = c .before .before in
     let o = ok (whole (numbered .before)) in
-    (omega (arith, lent-means (file (o .before)) (buffer (o .before)) 18 (fair o) .1), omega (arith, numbered .tell-numbers .ensures .1))
+    (omega (arith, lent-means (file (o .before)) (buffer (o .before)) 27 (fair o) .1), omega (arith, numbered .tell-numbers .ensures .1))
 
 same-length : tie.Need-same-length
 same-length c = search needs
@@ -83,7 +83,7 @@ returns-3 c =
     let n = numbered .tell-numbers in (
       whole-answer (λ D. []) (readFile s) (C .contents) (C .is) ∙ accepted (declines l) _ z,
       written (declines l) _ _ _ z
-          (copy .copy .ensures ∙ copied (n .result) (buffer l) 18 (n .ensures .1) (lent-means s (buffer l) 18 z .1) ∙ n .ensures .0
+          (copy .copy .ensures ∙ copied (n .result) (buffer l) 27 (n .ensures .1) (lent-means s (buffer l) 27 z .1) ∙ n .ensures .0
           ∙ ap numbers (told-is s (r .result) (r .ensures) (w .if2 .left))
           ∙ whole-left (λ D. numbers (told D)) (readFile s) (C .contents) (buffer l) (C .is)),
     )

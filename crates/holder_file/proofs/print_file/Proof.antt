@@ -23,8 +23,8 @@ abbrev buffer : tie.After-holder-file → List ℕ
 buffer c = start c .args .out .now
 
 -- nothing that is lent is refused
-fair : (c : tie.After-holder-file) → refusal (lentFile (file c) (buffer c) 256) ≡ 0
-fair c = lent-ok (file c) (buffer c) 256 (start c .pre .0) (start c .pre .1)
+fair : (c : tie.After-holder-file) → refusal (lentFile (file c) (buffer c) 512) ≡ 0
+fair c = lent-ok (file c) (buffer c) 512 (start c .pre .0) (start c .pre .1)
 
 answered : (c : tie.After-holder-file) → paperPrinting (c .holder-file .result) ≡ fileAnswer (λ C. length (textOf C) ∷ []) (readFile (file c))
 answered c = c .holder-file .ensures .0 ∙ rw (fair c) refl

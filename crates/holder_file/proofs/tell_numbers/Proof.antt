@@ -11,32 +11,62 @@ verdict-said-requires c κs = search needs
 outcome-said-requires : tie.Need-outcome-said-requires
 outcome-said-requires c κs = search needs
 
-array-read-t11 : tie.Need-array-read-t11
-array-read-t11 c = search needs
+mapped-said-requires : tie.Need-mapped-said-requires
+mapped-said-requires c κs = search needs
 
-array-read-t14 : tie.Need-array-read-t14
-array-read-t14 c = search needs
+array-read-t13 : tie.Need-array-read-t13
+array-read-t13 c = search needs
 
-array-read-t17 : tie.Need-array-read-t17
-array-read-t17 c = search needs
+array-read-t16 : tie.Need-array-read-t16
+array-read-t16 c = search needs
 
-array-read-t20 : tie.Need-array-read-t20
-array-read-t20 c = search needs
+array-read-t19 : tie.Need-array-read-t19
+array-read-t19 c = search needs
 
-array-read-t23 : tie.Need-array-read-t23
-array-read-t23 c = search needs
+array-read-t22 : tie.Need-array-read-t22
+array-read-t22 c = search needs
 
-array-read-t26 : tie.Need-array-read-t26
-array-read-t26 c = search needs
+array-read-t25 : tie.Need-array-read-t25
+array-read-t25 c = search needs
 
-array-read-t29 : tie.Need-array-read-t29
-array-read-t29 c = search needs
+array-read-t28 : tie.Need-array-read-t28
+array-read-t28 c = search needs
 
-array-read-t32 : tie.Need-array-read-t32
-array-read-t32 c = search needs
+array-read-t31 : tie.Need-array-read-t31
+array-read-t31 c = search needs
+
+array-read-t34 : tie.Need-array-read-t34
+array-read-t34 c = search needs
+
+array-read-t37 : tie.Need-array-read-t37
+array-read-t37 c = search needs
+
+array-read-t40 : tie.Need-array-read-t40
+array-read-t40 c = search needs
+
+array-read-t43 : tie.Need-array-read-t43
+array-read-t43 c = search needs
+
+array-read-t46 : tie.Need-array-read-t46
+array-read-t46 c = search needs
+
+array-read-t49 : tie.Need-array-read-t49
+array-read-t49 c = search needs
+
+array-read-t52 : tie.Need-array-read-t52
+array-read-t52 c = search needs
+
+array-read-t55 : tie.Need-array-read-t55
+array-read-t55 c = search needs
+
+array-read-t58 : tie.Need-array-read-t58
+array-read-t58 c = search needs
 
 returns : tie.Need-returns
-returns c = (numbers-told (c .before .before .before .before .before .args .t) _ _ _ _ (c .before .before .before .before .before .pre) (c .before .verdict-said .ensures) (c .outcome-said .ensures), refl)
+returns c =
+    let x = c .before .before .before .before .before .before .before in
+    let outcome = c .before .before in
+    (numbers-told (x .args .t) _ _ _ _ _ (x .pre .0) (x .pre .1) (outcome .before .verdict-said .ensures) (outcome .outcome-said .ensures) (c .before .mapped-said .ensures), refl)
 
 pub tell-numbers-spec : {M : Type 1} → statement M
 tell-numbers-spec =
@@ -44,12 +74,21 @@ tell-numbers-spec =
     (tie.spec
     verdict-said-requires
     outcome-said-requires
-    array-read-t11
-    array-read-t14
-    array-read-t17
-    array-read-t20
-    array-read-t23
-    array-read-t26
-    array-read-t29
-    array-read-t32
+    mapped-said-requires
+    array-read-t13
+    array-read-t16
+    array-read-t19
+    array-read-t22
+    array-read-t25
+    array-read-t28
+    array-read-t31
+    array-read-t34
+    array-read-t37
+    array-read-t40
+    array-read-t43
+    array-read-t46
+    array-read-t49
+    array-read-t52
+    array-read-t55
+    array-read-t58
     returns)
