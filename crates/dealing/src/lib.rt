@@ -281,8 +281,19 @@ pub fn deal_mapped(
     ensures { λ _. ⌜ now (g2 .exit) ≡ dealMappedLeft (setupOf s (now (matrix .entry))) (now (secrets .entry)) (now (random .entry)) (now (phi .entry)) (now (random2 .entry)) holder (buffers (now (g .entry)) (now (h .entry)) (now (g2 .entry)) (now (h2 .entry))) .g2 ⌝ }
     ensures { λ _. ⌜ now (h2 .exit) ≡ dealMappedLeft (setupOf s (now (matrix .entry))) (now (secrets .entry)) (now (random .entry)) (now (phi .entry)) (now (random2 .entry)) holder (buffers (now (g .entry)) (now (h .entry)) (now (g2 .entry)) (now (h2 .entry))) .h2 ⌝ }
 {
-    let refusal =
-        deal_mapped_refusal(s, matrix, secrets, random, phi, random2, holder, g, h, g2, h2);
+    let refusal = deal_mapped_refusal(
+        s,
+        matrix,
+        secrets,
+        random,
+        phi,
+        random2,
+        holder,
+        g,
+        h,
+        g2,
+        h2,
+    );
     if refusal != 0 {
         return Written::Refused(refusal);
     }
@@ -315,7 +326,19 @@ pub fn deal_mapped_all(
     ensures { λ _. ⌜ now (hs2 .exit) ≡ dealMappedAllLeft (setupOf s (now (matrix .entry))) (now (secrets .entry)) (now (random .entry)) (now (phi .entry)) (now (random2 .entry)) (buffers (now (gs .entry)) (now (hs .entry)) (now (gs2 .entry)) (now (hs2 .entry))) .h2 ⌝ }
 {
     let size = s.matrix_len();
-    let refusal = mapped_refusal(s, matrix, secrets, random, phi, random2, size, gs, hs, gs2, hs2);
+    let refusal = mapped_refusal(
+        s,
+        matrix,
+        secrets,
+        random,
+        phi,
+        random2,
+        size,
+        gs,
+        hs,
+        gs2,
+        hs2,
+    );
     if refusal != 0 {
         return Written::Refused(refusal);
     }
