@@ -1,25 +1,38 @@
--- Dealing to all is n single deals: each of them is accepted, and entry b of its g is entry i * d + b of all the g, and so of the h.
-use Prim.Native.Nat.{ℕ, _+_, _*_, _<_}
-use mathlib.Core.Path.{_≡_, sym, _∙_}
+-- Dealing to all is n single deals, with a map too: each of them is accepted, and entry b of its g is entry i * d + b of all the g, and so of the h.
+use Prim.Native.Nat.{ℕ, _*_, _<_}
+use mathlib.Core.Path.{sym, _∙_}
 use mathlib.Core.List.{List}
-use Rattle.base.specs.Fill.{tab}
-use Rattle.base.specs.Matrix.{flat}
 use Rattle.base.proofs.Fill.{getD-tab, flat-at}
 use Rattle.base.proofs.Matrix.{entry-fits}
 use Rattle.field.specs.Dot.{at}
-use Rattle.scheme.specs.Setup.{dim}
+use Rattle.scheme.specs.Setup.{Setup, dim}
 use Rattle.scheme.specs.Dealing.{dealt, partG, partH}
-use Rattle.dealing.specs.Singles.{AllSingle}
-use Rattle.scheme.proofs.Calls.{deal-accepts, dealAll-ok}
+use Rattle.scheme.specs.Calls.{toAll, secondDealt}
+use Rattle.dealing.specs.Singles.{PartOf, AllSingle, AllSingleMapped}
+use Rattle.scheme.proofs.Calls.{deal-accepts, dealAll-ok, dealMapped-accepts, dealMappedAll-ok}
+
+part-of-all : (S : Setup) (f : ℕ → List ℕ) (i : ℕ) → i < S .n → PartOf S i (toAll S f) (f i)
+part-of-all S f i l b m = getD-tab (S .n * dim S) _ 0 _ (entry-fits (S .n) (dim S) i b l m) ∙ sym (flat-at (dim S) (λ i. at (f i)) i b m)
 
 pub all-single : AllSingle
 all-single S secrets random gs hs z i l g h a b =
+    let F = dealt S secrets random in
     let y = deal-accepts S secrets random i g h (dealAll-ok S secrets random gs hs z .0) a b l in
     record {
       accepted = y;
-      row = λ b m. rw (z, y) (part (partG S (dealt S secrets random)) b m);
-      column = λ b m. rw (z, y) (part (partH S (dealt S secrets random)) b m);
+      row = λ b m. rw (z, y) (part-of-all S (partG S F) i l b m);
+      column = λ b m. rw (z, y) (part-of-all S (partH S F) i l b m);
     }
-  where
-    part : (f : ℕ → List ℕ) (b : ℕ) → b < dim S → at (tab (S .n * dim S) (flat (dim S) (λ i. at (f i)))) (i * dim S + b) ≡ at (f i) b
-    part f b m = getD-tab (S .n * dim S) _ 0 _ (entry-fits (S .n) (dim S) i b l m) ∙ sym (flat-at (dim S) (λ i. at (f i)) i b m)
+
+pub all-single-mapped : AllSingleMapped
+all-single-mapped S secrets random phi random2 all z i l one sized =
+    let F = dealt S secrets random in
+    let F2 = secondDealt S secrets random phi random2 in
+    let y = dealMapped-accepts S secrets random phi random2 one i (dealMappedAll-ok S secrets random phi random2 all z .0) sized l in
+    record {
+      accepted = y;
+      row = λ b m. rw (z, y) (part-of-all S (partG S F) i l b m);
+      column = λ b m. rw (z, y) (part-of-all S (partH S F) i l b m);
+      row2 = λ b m. rw (z, y) (part-of-all S (partG S F2) i l b m);
+      column2 = λ b m. rw (z, y) (part-of-all S (partH S F2) i l b m);
+    }

@@ -1,7 +1,7 @@
 // Dealing: the open calls. Each first works out its refusal by the table of scheme's specs/Calls.antt; where there is none it
 // works on inputs that are in order. The work neither branches on nor indexes by a secret or a random entry.
 ghost use mathlib.Core.Path.{_≡_};
-ghost use mathlib.Core.List.{[], _++_};
+ghost use mathlib.Core.List.{[], _∷_, _++_};
 ghost use Prim.Native.Nat.{ℕ, _+_, _-_, _*_, _<_, _≤_};
 ghost use lib.ListN.{length};
 ghost use Rattle.base.specs.Rules.{refusal, refusalFrom};
@@ -10,9 +10,10 @@ ghost use Rattle.base.specs.Matrix.{flat};
 ghost use Rattle.field.specs.Dot.{along};
 ghost use Rattle.scheme.specs.Setup.{setupOf};
 ghost use Rattle.scheme.specs.Answers.{paperWritten};
-ghost use Rattle.scheme.specs.Dealing.{dealtEntry};
-ghost use Rattle.scheme.specs.Calls.{limits, sizes, inField, dealLent, dealRules, dealCall, dealLeftG, dealLeftH, dealAllRules, dealAllCall, dealAllLeftG, dealAllLeftH};
-ghost use Rattle.dealing.specs.Inner.{sized, DealtRoom};
+ghost use Rattle.scheme.specs.Dealing.{dealtEntry, mappedEntry, partG, partH};
+ghost use Rattle.scheme.specs.Calls.{limits, sizes, inField, table, room, dealLent, dealRules, dealCall, dealLeftG, dealLeftH, dealAllRules, dealAllCall, dealAllLeftG, dealAllLeftH, buffers, dealMappedLent, dealMappedRules, dealMappedCall, dealMappedLeft, dealMappedAllCall, dealMappedAllLeft};
+ghost use Rattle.parts.specs.Inner.{lineEntry};
+ghost use Rattle.dealing.specs.Inner.{sized, DealtRoom, RowRoom, MappedRoom, HolderRoom};
 use scheme::Params;
 use scheme::Written;
 
@@ -34,7 +35,7 @@ fn copy(from: &[u16], start: usize, step: usize, count: usize, out: &mut [u16], 
 // are the random entries that are left.
 fn fill_dealt(s: Params, secrets: &[u16], random: &[u16], f: &mut [u16])
     requires { ⌜ DealtRoom (s .l) (s .e) (now secrets) (now random) (now f) ⌝ }
-    ensures { λ _. ⌜ now (f .exit) ≡ filled (flat (s .l + s .e) (dealtEntry (sized (s .l) (s .e)) (now (secrets .entry)) (now (random .entry)))) ((s .l + s .e) * (s .l + s .e)) (now (f .entry)) ⌝ }
+    ensures { λ _. ⌜ now (f .exit) ≡ filled (flat (s .l + s .e) (dealtEntry (sized 0 (s .l) (s .e)) (now (secrets .entry)) (now (random .entry)))) ((s .l + s .e) * (s .l + s .e)) (now (f .entry)) ⌝ }
 {
     let l = s.l as usize;
     let e = s.e as usize;
@@ -46,6 +47,37 @@ fn fill_dealt(s: Params, secrets: &[u16], random: &[u16], f: &mut [u16])
         k += 1;
     }
     copy(random, l * e, 1, e * d, f, l * d);
+}
+
+// F_φ
+// Row k of F_φ, for k below ℓ: the products of row k of φ and the first ℓ entries of each column of F.
+fn map_row(p: u16, l: usize, d: usize, phi: &[u16], k: usize, f: &[u16], f2: &mut [u16])
+    requires { ⌜ RowRoom p l d (now phi) k (now f) (now f2) ⌝ }
+    ensures { λ _. ⌜ now (f2 .exit) ≡ laid (lineEntry p l (now (phi .entry)) (now (f .entry)) 1 d k) (k * d) d (now (f2 .entry)) ⌝ }
+{
+    let mut b = 0;
+    while b < d {
+        f2[k * d + b] = field::dot_product(p, l, phi, k * l, f, b, d);
+        b += 1;
+    }
+}
+
+// F_φ by rows, into the first d * d places of f2: the first ℓ entries of each column are the map of those of F, and the rows below are the second random
+// entries.
+fn fill_mapped(s: Params, phi: &[u16], random2: &[u16], f: &[u16], f2: &mut [u16])
+    requires { ⌜ MappedRoom (s .p) (s .l) (s .e) (now phi) (now random2) (now f) (now f2) ⌝ }
+    ensures { λ _. ⌜ now (f2 .exit) ≡ filled (flat (s .l + s .e) (mappedEntry (sized (s .p) (s .l) (s .e)) (now (f .entry)) (now (phi .entry)) (now (random2 .entry)))) ((s .l + s .e) * (s .l + s .e)) (now (f2 .entry)) ⌝ }
+{
+    let p = s.p;
+    let l = s.l as usize;
+    let e = s.e as usize;
+    let d = l + e;
+    let mut k = 0;
+    while k < l {
+        map_row(p, l, d, phi, k, f, f2);
+        k += 1;
+    }
+    copy(random2, 0, 1, e * d, f2, l * d);
 }
 
 // DEAL
@@ -95,7 +127,18 @@ fn deal_refusal(
     base::or_when(or_inputs(c, s, matrix, secrets, random), 5, s.n <= holder)
 }
 
-// A holder's part of a dealing: its h along the rows of F, then its g along the columns.
+// A holder's part: its h along the rows of F, then its g along the columns.
+fn write_part(s: Params, matrix: &[u16], f: &[u16], holder: u16, g: &mut [u16], h: &mut [u16])
+    requires { ⌜ HolderRoom (setupOf s (now matrix)) (now f) holder (now g) (now h) ⌝ }
+    ensures { λ _. ⌜ now (g .exit) ≡ partG (setupOf s (now (matrix .entry))) (now (f .entry)) holder ⌝ }
+    ensures { λ _. ⌜ now (h .exit) ≡ partH (setupOf s (now (matrix .entry))) (now (f .entry)) holder ⌝ }
+{
+    let d = s.dim();
+    parts::write_one(s.p, d, matrix, holder as usize, f, d, 1, h, 0);
+    parts::write_one(s.p, d, matrix, holder as usize, f, 1, d, g, 0);
+}
+
+// A holder's part of a dealing.
 pub fn deal(
     s: Params,
     matrix: &[u16],
@@ -113,11 +156,9 @@ pub fn deal(
     if refusal != 0 {
         return Written::Refused(refusal);
     }
-    let d = s.dim();
     let mut f = [0u16; 256];
     fill_dealt(s, secrets, random, &mut f);
-    parts::write_one(s.p, d, matrix, holder as usize, &f, d, 1, h, 0);
-    parts::write_one(s.p, d, matrix, holder as usize, &f, 1, d, g, 0);
+    write_part(s, matrix, &f, holder, g, h);
     Written::Done
 }
 
@@ -160,5 +201,153 @@ pub fn deal_all(
     let mut f = [0u16; 256];
     fill_dealt(s, secrets, random, &mut f);
     parts::write_all(s.p, d, s.n as usize, matrix, &f, gs, hs);
+    Written::Done
+}
+
+// DEAL WITH A MAP
+// Refusal 3 of the four buffers of a dealing with a map.
+fn or_buffers(standing: u16, needed: usize, g: &[u16], h: &[u16], g2: &[u16], h2: &[u16]) -> u16
+    ensures { λ r. ⌜ r ≡ refusalFrom standing (sizes (room (length (now (g .entry))) needed ∷ room (length (now (h .entry))) needed ∷ room (length (now (g2 .entry))) needed ∷ room (length (now (h2 .entry))) needed ∷ [])) ⌝ }
+{
+    let a = scheme::or_size(standing, g.len(), needed);
+    let b = scheme::or_size(a, h.len(), needed);
+    let c = scheme::or_size(b, g2.len(), needed);
+    scheme::or_size(c, h2.len(), needed)
+}
+
+// Refusals 1 to 4 of the calls that deal with a map: they are lent the same but for the entries needed in a buffer.
+fn mapped_refusal(
+    s: Params,
+    matrix: &[u16],
+    secrets: &[u16],
+    random: &[u16],
+    phi: &[u16],
+    random2: &[u16],
+    needed: usize,
+    g: &[u16],
+    h: &[u16],
+    g2: &[u16],
+    h2: &[u16],
+) -> u16
+    ensures { λ r. ⌜ r ≡ refusal (table (setupOf s (now (matrix .entry))) (dealMappedLent (setupOf s (now (matrix .entry))) (now (secrets .entry)) (now (random .entry)) (now (phi .entry)) (now (random2 .entry)) needed (buffers (now (g .entry)) (now (h .entry)) (now (g2 .entry)) (now (h2 .entry)))) []) ⌝ }
+{
+    let l = s.l as usize;
+    let a = inputs_refusal(s, matrix, secrets, random);
+    let b = scheme::or_size(a, phi.len(), l * l);
+    let c = scheme::or_size(b, random2.len(), (s.e as usize) * s.dim());
+    let d = or_buffers(c, needed, g, h, g2, h2);
+    let e = or_inputs(d, s, matrix, secrets, random);
+    let f = scheme::or_elements(e, s.p, phi);
+    scheme::or_elements(f, s.p, random2)
+}
+
+fn deal_mapped_refusal(
+    s: Params,
+    matrix: &[u16],
+    secrets: &[u16],
+    random: &[u16],
+    phi: &[u16],
+    random2: &[u16],
+    holder: u16,
+    g: &[u16],
+    h: &[u16],
+    g2: &[u16],
+    h2: &[u16],
+) -> u16
+    ensures { λ r. ⌜ r ≡ refusal (dealMappedRules (setupOf s (now (matrix .entry))) (now (secrets .entry)) (now (random .entry)) (now (phi .entry)) (now (random2 .entry)) holder (buffers (now (g .entry)) (now (h .entry)) (now (g2 .entry)) (now (h2 .entry)))) ⌝ }
+{
+    let d = s.dim();
+    let lent = mapped_refusal(s, matrix, secrets, random, phi, random2, d, g, h, g2, h2);
+    base::or_when(lent, 5, s.n <= holder)
+}
+
+// A holder's part of a dealing, and its part of the second dealing, whose array is the map of the first.
+pub fn deal_mapped(
+    s: Params,
+    matrix: &[u16],
+    secrets: &[u16],
+    random: &[u16],
+    phi: &[u16],
+    random2: &[u16],
+    holder: u16,
+    g: &mut [u16],
+    h: &mut [u16],
+    g2: &mut [u16],
+    h2: &mut [u16],
+) -> Written
+    ensures { λ r. ⌜ paperWritten r ≡ dealMappedCall (setupOf s (now (matrix .entry))) (now (secrets .entry)) (now (random .entry)) (now (phi .entry)) (now (random2 .entry)) holder (buffers (now (g .entry)) (now (h .entry)) (now (g2 .entry)) (now (h2 .entry))) ⌝ }
+    ensures { λ _. ⌜ now (g .exit) ≡ dealMappedLeft (setupOf s (now (matrix .entry))) (now (secrets .entry)) (now (random .entry)) (now (phi .entry)) (now (random2 .entry)) holder (buffers (now (g .entry)) (now (h .entry)) (now (g2 .entry)) (now (h2 .entry))) .g ⌝ }
+    ensures { λ _. ⌜ now (h .exit) ≡ dealMappedLeft (setupOf s (now (matrix .entry))) (now (secrets .entry)) (now (random .entry)) (now (phi .entry)) (now (random2 .entry)) holder (buffers (now (g .entry)) (now (h .entry)) (now (g2 .entry)) (now (h2 .entry))) .h ⌝ }
+    ensures { λ _. ⌜ now (g2 .exit) ≡ dealMappedLeft (setupOf s (now (matrix .entry))) (now (secrets .entry)) (now (random .entry)) (now (phi .entry)) (now (random2 .entry)) holder (buffers (now (g .entry)) (now (h .entry)) (now (g2 .entry)) (now (h2 .entry))) .g2 ⌝ }
+    ensures { λ _. ⌜ now (h2 .exit) ≡ dealMappedLeft (setupOf s (now (matrix .entry))) (now (secrets .entry)) (now (random .entry)) (now (phi .entry)) (now (random2 .entry)) holder (buffers (now (g .entry)) (now (h .entry)) (now (g2 .entry)) (now (h2 .entry))) .h2 ⌝ }
+{
+    let refusal = deal_mapped_refusal(
+        s,
+        matrix,
+        secrets,
+        random,
+        phi,
+        random2,
+        holder,
+        g,
+        h,
+        g2,
+        h2,
+    );
+    if refusal != 0 {
+        return Written::Refused(refusal);
+    }
+    let mut f = [0u16; 256];
+    fill_dealt(s, secrets, random, &mut f);
+    let mut f2 = [0u16; 256];
+    fill_mapped(s, phi, random2, &f, &mut f2);
+    write_part(s, matrix, &f, holder, g, h);
+    write_part(s, matrix, &f2, holder, g2, h2);
+    Written::Done
+}
+
+// Every holder's part of both dealings.
+pub fn deal_mapped_all(
+    s: Params,
+    matrix: &[u16],
+    secrets: &[u16],
+    random: &[u16],
+    phi: &[u16],
+    random2: &[u16],
+    gs: &mut [u16],
+    hs: &mut [u16],
+    gs2: &mut [u16],
+    hs2: &mut [u16],
+) -> Written
+    ensures { λ r. ⌜ paperWritten r ≡ dealMappedAllCall (setupOf s (now (matrix .entry))) (now (secrets .entry)) (now (random .entry)) (now (phi .entry)) (now (random2 .entry)) (buffers (now (gs .entry)) (now (hs .entry)) (now (gs2 .entry)) (now (hs2 .entry))) ⌝ }
+    ensures { λ _. ⌜ now (gs .exit) ≡ dealMappedAllLeft (setupOf s (now (matrix .entry))) (now (secrets .entry)) (now (random .entry)) (now (phi .entry)) (now (random2 .entry)) (buffers (now (gs .entry)) (now (hs .entry)) (now (gs2 .entry)) (now (hs2 .entry))) .g ⌝ }
+    ensures { λ _. ⌜ now (hs .exit) ≡ dealMappedAllLeft (setupOf s (now (matrix .entry))) (now (secrets .entry)) (now (random .entry)) (now (phi .entry)) (now (random2 .entry)) (buffers (now (gs .entry)) (now (hs .entry)) (now (gs2 .entry)) (now (hs2 .entry))) .h ⌝ }
+    ensures { λ _. ⌜ now (gs2 .exit) ≡ dealMappedAllLeft (setupOf s (now (matrix .entry))) (now (secrets .entry)) (now (random .entry)) (now (phi .entry)) (now (random2 .entry)) (buffers (now (gs .entry)) (now (hs .entry)) (now (gs2 .entry)) (now (hs2 .entry))) .g2 ⌝ }
+    ensures { λ _. ⌜ now (hs2 .exit) ≡ dealMappedAllLeft (setupOf s (now (matrix .entry))) (now (secrets .entry)) (now (random .entry)) (now (phi .entry)) (now (random2 .entry)) (buffers (now (gs .entry)) (now (hs .entry)) (now (gs2 .entry)) (now (hs2 .entry))) .h2 ⌝ }
+{
+    let size = s.matrix_len();
+    let refusal = mapped_refusal(
+        s,
+        matrix,
+        secrets,
+        random,
+        phi,
+        random2,
+        size,
+        gs,
+        hs,
+        gs2,
+        hs2,
+    );
+    if refusal != 0 {
+        return Written::Refused(refusal);
+    }
+    let d = s.dim();
+    let mut f = [0u16; 256];
+    fill_dealt(s, secrets, random, &mut f);
+    let mut f2 = [0u16; 256];
+    fill_mapped(s, phi, random2, &f, &mut f2);
+    parts::write_all(s.p, d, s.n as usize, matrix, &f, gs, hs);
+    parts::write_all(s.p, d, s.n as usize, matrix, &f2, gs2, hs2);
     Written::Done
 }

@@ -7,7 +7,7 @@
 -- matrix: the setup's matrix, lent; setupRules: the limits and the length of a matrix, with which many tables begin
 -- xRules, xCall, xLeft: the table, the answer and the buffer of call x
 -- toAll: every holder's part, one after the other
--- Buffers: four lent buffers, for a holder's part and its second part, or for those of all
+-- Buffers, buffers: four lent buffers, for a holder's part and its second part, or for those of all
 use mathlib.Core.Path.{_≡_}
 use mathlib.Core.Bool.{Bool, true, not, _||_}
 use mathlib.Core.List.{List, [], _∷_, _++_}
@@ -117,6 +117,9 @@ pub record Buffers : Type 0 where
   pub h : List ℕ
   pub g2 : List ℕ
   pub h2 : List ℕ
+
+abbrev pub buffers : (g h g2 h2 : List ℕ) → Buffers
+buffers g h g2 h2 = record { g = g; h = h; g2 = g2; h2 = h2 }
 
 abbrev pub dealMappedLent : Setup → (secrets random phi random2 : List ℕ) → (k : ℕ) → Buffers → List Lent
 dealMappedLent S secrets random phi random2 k B =

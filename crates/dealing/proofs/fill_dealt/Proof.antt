@@ -17,7 +17,7 @@ use Rattle.dealing.proofs.fill_dealt.Statement.{statement}
 use Rattle.dealing.proofs.fill_dealt.Tie as tie
 
 abbrev Inv-loop : tie.InvT-loop
-Inv-loop secrets random f₀ l e d k₀ f k = (k ≤ l) × (length f ≡ length f₀) × (f ≡ filled (flat d (dealtEntry (sized l e) secrets random)) (k * d) f₀)
+Inv-loop secrets random f₀ l e d k₀ f k = (k ≤ l) × (length f ≡ length f₀) × (f ≡ filled (flat d (dealtEntry (sized 0 l e) secrets random)) (k * d) f₀)
 
 abbrev μ-loop : tie.MeasureT-loop
 μ-loop secrets random f₀ l e d k₀ f k = l - k
