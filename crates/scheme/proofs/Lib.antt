@@ -9,6 +9,7 @@ pub mod NoColumns
 pub mod Grows
 pub mod Cases
 mod Supplier
+mod MapCases
 mod SetRows
 pub mod PointSets
 pub mod Interpolated
