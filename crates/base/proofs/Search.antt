@@ -1,6 +1,6 @@
 -- The laws of the searches: what `every`, `first` and `firstVec` answer, and the steps by which a loop computes `every` and `first`.
 use mathlib.Core.Path.{_≡_, refl, ap, sym, _∙_}
-use mathlib.Core.Bool.{Bool, true, false, _&&_, false≢true}
+use mathlib.Core.Bool.{Bool, true, false, _&&_, _||_, or-comm, false≢true}
 use mathlib.Core.List.{List, [], _∷_}
 use mathlib.Core.Logic.{_⊎_, ⊎-elim}
 use mathlib.Core.Option.{Option, none, some, Option·none-ne-some}
@@ -100,6 +100,24 @@ first-le t n = go (first t n) (first-is t n)
     go : (r : ℕ) → First t n r → r ≤ n
     go r (found a e h) = omega arith
     go r (missing a h) = omega arith
+
+-- below the lowest none passes
+none-below : (t : ℕ → Bool) (n r : ℕ) → First t n r → (j : ℕ) → j < r → t j ≡ false
+none-below t n r (found a e h) j l = h j l
+none-below t n r (missing a h) j l = h j (omega arith)
+
+-- the lowest that passes one of two tests is the lower of the two lowest
+lower : (t u : ℕ → Bool) (n r q : ℕ) → First t n r → First u n q → r ≤ q → First (λ i. t i || u i) n r
+lower t u n r q (found a e h) w l = found a (ap (λ b. b || u r) e) (λ j m. ap (λ b. b || u j) (h j m) ∙ none-below u n q w j (omega arith))
+lower t u n r q (missing a h) w l = missing a (λ j m. ap (λ b. b || u j) (h j m) ∙ none-below u n q w j (omega arith))
+
+pub first-or-left : (t u : ℕ → Bool) (n : ℕ) → first t n ≤ first u n → first t n ≡ first (λ i. t i || u i) n
+first-or-left t u n l =
+    let v : ℕ → Bool = λ i. t i || u i in
+    first-only v v n (first t n) (first v n) (λ i m. refl) (lower t u n (first t n) (first u n) (first-is t n) (first-is u n) l) (first-is v n)
+
+pub first-or-right : (t u : ℕ → Bool) (n : ℕ) → first u n ≤ first t n → first u n ≡ first (λ i. t i || u i) n
+first-or-right t u n l = first-or-left u t n l ∙ first-ext (λ i. u i || t i) (λ i. t i || u i) n (λ i m. or-comm (u i) (t i))
 
 -- a loop upwards from i: the search from here is the search of the whole
 module _ (t : ℕ → Bool) (i n : ℕ) where

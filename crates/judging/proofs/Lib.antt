@@ -1,4 +1,3 @@
 pub mod Products
 pub mod Pairs
-pub mod Lowest
 pub mod Ends

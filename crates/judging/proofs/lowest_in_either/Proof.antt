@@ -4,7 +4,7 @@ use native.Mathlib.Omega.{arith}
 use borrow.Author.Needs.{needs}
 use Rattle.scheme.specs.Setup.{setupOf}
 use Rattle.scheme.specs.Dealing.{differs, differsIn}
-use Rattle.judging.proofs.Lowest.{first-or-left, first-or-right}
+use Rattle.base.proofs.Search.{first-or-left, first-or-right}
 use Rattle.judging.proofs.lowest_in_either.Statement.{statement}
 use Rattle.judging.proofs.lowest_in_either.Tie as tie
 
