@@ -235,11 +235,18 @@ fn deal_mapped_faults(s: &Params, m: &[u16], from: Mapped, parts: &Parts, size: 
     f
 }
 
-/// Holder i's parts of both arrays, in the order of `Parts`.
-fn both_parts(s: &Params, m: &[u16], from: Mapped, i: usize) -> [Vec<u16>; 4] {
+/// F and F_φ by rows.
+fn both_dealt(s: &Params, from: Mapped) -> [Vec<Vec<u16>>; 2] {
     let first = dealt(s, from.secrets, from.random);
     let second = dealt_mapped(s, &first, from.phi, from.random2);
-    [part_g(s, m, &first, i), part_h(s, m, &first, i), part_g(s, m, &second, i), part_h(s, m, &second, i)]
+    [first, second]
+}
+
+/// Holder i's parts of both arrays, in the order of `Parts`; of each h is made before g.
+fn both_parts(s: &Params, m: &[u16], [first, second]: &[Vec<Vec<u16>>; 2], i: usize) -> [Vec<u16>; 4] {
+    let (h, g) = (part_h(s, m, first, i), part_g(s, m, first, i));
+    let (h2, g2) = (part_h(s, m, second, i), part_g(s, m, second, i));
+    [g, h, g2, h2]
 }
 
 pub fn deal_mapped(s: Params, m: &[u16], from: Mapped, holder: u16, parts: Parts) -> Answer {
@@ -248,7 +255,7 @@ pub fn deal_mapped(s: Params, m: &[u16], from: Mapped, holder: u16, parts: Parts
     if let Some(k) = f.lowest() {
         return refused(k);
     }
-    for (out, part) in parts.into_iter().zip(both_parts(&s, m, from, holder as usize)) {
+    for (out, part) in parts.into_iter().zip(both_parts(&s, m, &both_dealt(&s, from), holder as usize)) {
         out.copy_from_slice(&part);
     }
     given(&[])
@@ -258,8 +265,9 @@ pub fn deal_mapped_all(s: Params, m: &[u16], from: Mapped, mut parts: Parts) -> 
     if let Some(k) = deal_mapped_faults(&s, m, from, &parts, s.entries()).lowest() {
         return refused(k);
     }
+    let arrays = both_dealt(&s, from);
     for i in 0..s.n as usize {
-        for (out, part) in parts.iter_mut().zip(both_parts(&s, m, from, i)) {
+        for (out, part) in parts.iter_mut().zip(both_parts(&s, m, &arrays, i)) {
             out[i * s.d()..(i + 1) * s.d()].copy_from_slice(&part);
         }
     }
