@@ -1,60 +1,90 @@
--- An honest run's values and verdicts are accepted by the calls, so what each holder has is in order, reads back and prints.
-use mathlib.Core.Path.{_≡_, sym, ap, _∙_}
+-- An honest run's values and verdicts are accepted by the calls, so what each holder has is in order, reads back and prints. With a map, the first dealing by itself is
+-- an honest one, and so its part of the contents is in order; the second part is by the calls on the second dealing.
+-- honest-prints: contents in order, accepted and kept, read back and print
+use mathlib.Core.Path.{_≡_, refl, sym, ap, _∙_}
+use mathlib.Core.Bool.{true}
 use mathlib.Core.List.{List, [], _∷_}
-use Prim.Native.Nat.{ℕ, _≤_, _<_}
+use Prim.Native.Nat.{ℕ}
 use Rattle.base.specs.Rules.{refusal, Answer}
 use Rattle.base.proofs.Rules.{not-refused}
 use Rattle.field.specs.Dot.{at}
 use Rattle.scheme.specs.declared.Judgement.the-variants.{Accept}
 use Rattle.scheme.specs.declared.Fate.the-variants.{Kept}
-use Rattle.scheme.specs.Setup.{Setup}
-use Rattle.scheme.specs.Dealing.{judge, outcome}
-use Rattle.scheme.specs.Calls.{judgeRules, outcomeRules}
-use Rattle.scheme.proofs.Calls.{deal-ok, judge-ok, outcome-ok}
-use Rattle.scheme.proofs.Verdicts.{accept-is, kept-means, kept-is}
-use Rattle.file_text.specs.Lines.{printed}
-use Rattle.file_reading.specs.Contents.{InOrder, judgement, fate, keptShares, verdictOf}
+use Rattle.scheme.specs.Dealing.{judge, isKept, fateOf, outcome, shares}
+use Rattle.scheme.specs.Answers.{paperJudgement}
+use Rattle.scheme.specs.Calls.{judgeRules, judgeMappedRules, outcomeRules}
+use Rattle.scheme.proofs.Calls.{deal-ok, judge-ok, judgeMapped-ok, outcome-ok}
+use Rattle.scheme.proofs.Verdicts.{accept-is, kept-means}
+use Rattle.file_reading.specs.Contents.{Contents, InOrder, sharesOf, judgement, fate, verdictOf}
 use Rattle.file_reading.proofs.Sound.{reads-back}
 use Rattle.holder_file.specs.Text.{textOf}
 use Rattle.holder_file.proofs.Examples.{prints}
-use Rattle.demand.specs.Demand.{Dealing, Honest}
-use Rattle.demand.specs.Files.{contentsOfRun, HonestFile, HonestFiles}
+use Rattle.demand.specs.Maps.{firstDealing}
+use Rattle.demand.specs.Files.{contentsOfRun, contentsOfMappedRun, HonestFile, HonestFiles, HonestMappedFiles}
 use Rattle.demand.proofs.Demand.{demand3}
+use Rattle.demand.proofs.HonestMaps.{demand3-with-maps}
 
-module _ (S : Setup) (secrets random : List ℕ) (D : Dealing) (run : Honest S secrets random D) (i : ℕ) (l : i < S .n) (number : ℕ) (from : 1 ≤ number) (to : number ≤ 65535) where
-  pub honest-file : HonestFile S D number i
-  unfolding textOf
-  honest-file =
-      let found = demand3 .honest S secrets random D run in
-      let C = contentsOfRun S D number i in
-      let K = found .keep i l in
-      let dealt = deal-ok S secrets random i (run .lentG) (run .lentH) (not-refused _ _ [] (run .dealing i l) .0) in
-      let judged = not-refused (refusal (judgeRules S (D .h i) (D .values i))) (judge S (D .h i) (D .values i)) (1 ∷ []) (found .accept i l) in
-      let settled = not-refused (refusal (outcomeRules S (D .g i) (D .verdicts i) (K .lent))) (outcome S (D .verdicts i)) (1 ∷ []) (K .settled) in
-      let J = judge-ok S (D .h i) (D .values i) (judged .0) in
-      let O = outcome-ok S (D .g i) (D .verdicts i) (K .lent) (settled .0) in
-      let k = kept-means S (D .verdicts i) (settled .1) in
-      let accept : judgement C ≡ Accept = accept-is (judgement C) (judged .1) in
-      let keep : fate C ≡ Kept = kept-is (fate C) (settled .1) in
-      let share : keptShares C ≡ D .shares i = rw k (rw (settled .0, k) at (K .share)) in
-      let order : InOrder C = record {
-        setup = dealt .0 .setup;
-        dealing = (from, to);
-        holder = l;
-        row = O .part;
-        column = J .part;
-        received = J .received;
-        heard = O .heard;
-        own = run .said i i l l ∙ ap (λ (a : Answer). at (a .values) 0) (found .accept i l) ∙ sym (ap verdictOf accept);
-      } in
-      record {
-        in-order = order;
-        accepted = reads-back C order;
-        accepts = accept;
-        keeps = keep;
-        shares = share;
-        text = prints C order ∙ rw (accept, keep) (ap (printed S number i Accept Kept) (rw k at share));
-      }
+honest-prints : (C : Contents) (xs ys : List ℕ) → InOrder C → judgement C ≡ Accept → isKept (C .setup) (C .verdicts) ≡ true
+    → shares (C .setup) (C .g) ≡ xs → sharesOf (C .setup) (C .kind) ≡ ys → HonestFile C xs ys
+unfolding textOf
+honest-prints C xs ys order accept k e f =
+    let keep : fate C ≡ Kept = unfold fateOf in rw k refl in
+    record {
+      in-order = order;
+      accepted = reads-back C order;
+      accepts = accept;
+      keeps = keep;
+      shares = rw k e;
+      shares2 = rw k f;
+      text = prints C order ∙ rw (accept, keep, e, f) refl;
+    }
 
 pub honest-files : HonestFiles
-honest-files = honest-file
+honest-files S secrets random D run i l number from to =
+    let found = demand3 .honest S secrets random D run in
+    let C = contentsOfRun S D number i in
+    let K = found .keep i l in
+    let dealt = deal-ok S secrets random i (run .lentG) (run .lentH) (not-refused _ _ [] (run .dealing i l) .0) in
+    let judged = not-refused (refusal (judgeRules S (D .h i) (D .values i))) (judge S (D .h i) (D .values i)) (1 ∷ []) (found .accept i l) in
+    let settled = not-refused (refusal (outcomeRules S (D .g i) (D .verdicts i) (K .lent))) (outcome S (D .verdicts i)) (1 ∷ []) (K .settled) in
+    let J = judge-ok S (D .h i) (D .values i) (judged .0) in
+    let O = outcome-ok S (D .g i) (D .verdicts i) (K .lent) (settled .0) in
+    let k = kept-means S (D .verdicts i) (settled .1) in
+    let accept : judgement C ≡ Accept = accept-is (judgement C) (judged .1) in
+    let order : InOrder C = record {
+      setup = dealt .0 .setup;
+      dealing = (from, to);
+      holder = l;
+      row = O .part;
+      column = J .part;
+      received = J .received;
+      heard = O .heard;
+      second = tt;
+      own = run .said i i l l ∙ ap (λ (a : Answer). at (a .values) 0) (found .accept i l) ∙ sym (ap verdictOf accept);
+    } in
+    honest-prints C _ _ order accept k (rw (settled .0, k) at (K .share)) refl
+
+pub honest-mapped-files : HonestMappedFiles
+honest-mapped-files S X T run i l number from to =
+    let found = demand3-with-maps .honest S X T run in
+    let P = honest-files S (X .secrets) (X .random) (firstDealing T) (found .honest) i l number from to in
+    let C = contentsOfMappedRun S T number i in
+    let K = found .keep i l in
+    let judged = not-refused (refusal (judgeMappedRules S (T .h i) (T .values i) (T .phi i) (T .h2 i) (T .values2 i))) (paperJudgement (judgement C)) (1 ∷ []) (found .accept i l) in
+    let settled = not-refused (refusal (outcomeRules S (T .g2 i) (T .verdicts i) (K .lent2))) (outcome S (T .verdicts i)) (1 ∷ []) (K .settled2) in
+    let J = judgeMapped-ok S (T .h i) (T .values i) (T .phi i) (T .h2 i) (T .values2 i) (judged .0) in
+    let O = outcome-ok S (T .g2 i) (T .verdicts i) (K .lent2) (settled .0) in
+    let k = kept-means S (T .verdicts i) (settled .1) in
+    let accept : judgement C ≡ Accept = accept-is (judgement C) (judged .1) in
+    let order : InOrder C = record {
+      setup = P .in-order .setup;
+      dealing = P .in-order .dealing;
+      holder = P .in-order .holder;
+      row = P .in-order .row;
+      column = P .in-order .column;
+      received = P .in-order .received;
+      heard = P .in-order .heard;
+      second = record { row = O .part; column = J .second .part; map = J .map; received = J .second .received };
+      own = P .in-order .own ∙ ap verdictOf (P .accepts ∙ sym accept);
+    } in
+    honest-prints C _ _ order accept k (rw k at (P .shares)) (rw (settled .0, k) at (K .share2))

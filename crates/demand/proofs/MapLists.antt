@@ -17,9 +17,9 @@ use Rattle.scheme.specs.Dealing.{imageAt, image, pairValue, expected, differs, 
 use Rattle.scheme.specs.Sets.{members, membersFrom, isRow, findRow, hasRow, determines}
 use Rattle.scheme.specs.Opening.{gives, opening, combine}
 use Rattle.scheme.specs.Calls.{pairValueCall}
-use Rattle.demand.specs.Demand.{Dealing, Member, column, InLimits, Handed, Opens}
+use Rattle.demand.specs.Demand.{Dealing, Member, oneColumn, column, InLimits, Handed, Opens}
 use Rattle.demand.specs.Maps as maps
-use Rattle.demand.specs.Maps.{MappedDealing, Which, together, KeepsMapped, DoneWithMaps, oneColumn}
+use Rattle.demand.specs.Maps.{MappedDealing, Which, together, KeepsMapped, DoneWithMaps}
 use Rattle.demand.proofs.Lists.{four, three, accepted, dealings, of-group}
 use Rattle.demand.proofs.Lists as lists
 use Rattle.demand.proofs.HonestMaps.{demand3-with-maps}

@@ -24,8 +24,8 @@ use Rattle.scheme.proofs.Calls.{judge-accepts, judgeMapped-ok}
 use Rattle.scheme.proofs.Verdicts.{accept-when, MappedMeans, mapped-means}
 use Rattle.scheme.proofs.Members.{member-at}
 use Rattle.scheme.proofs.Sets.{theRow}
-use Rattle.demand.specs.Demand.{Dealing, Member, Keeps, Done, Terms, Handed, column, secretsOver, Opens, Refused, by-four, by-seven, Found}
-use Rattle.demand.specs.Maps.{MappedDealing, firstDealing, secondDealing, Which, plain, first, second, together, oneColumn, KeepsMapped, DoneWithMaps, firsts, seconds, SecretAndMap, FoundWithMaps}
+use Rattle.demand.specs.Demand.{Dealing, Member, Keeps, Done, Terms, oneColumn, Handed, column, secretsOver, Opens, Refused, by-four, by-seven, Found}
+use Rattle.demand.specs.Maps.{MappedDealing, firstDealing, secondDealing, Which, plain, first, second, together, KeepsMapped, DoneWithMaps, firsts, seconds, SecretAndMap, FoundWithMaps}
 use Rattle.demand.proofs.Demand.{demand3, combine-tab, array-by-row}
 
 -- the map of a sum with constants c, when every y a is position k of the map of x a, and z is that sum of the x a

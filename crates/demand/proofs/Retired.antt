@@ -3,9 +3,9 @@
 -- Other: another number than the retired one
 -- Reads: what is read of a file is not refused by that number
 use mathlib.Core.Path.{_≡_, refl}
-use mathlib.Core.Bool.{false, not, _&&_}
+use mathlib.Core.Bool.{Bool, false, not, _&&_}
 use mathlib.Core.List.{List, [], _∷_}
-use Prim.Native.Nat.{ℕ, zero, suc, _+_, _*_}
+use Prim.Native.Nat.{ℕ, zero, suc}
 use native.Mathlib.Omega.{arith}
 use borrow.Author.Tests.{eqb-false}
 use lib.Dec.{T, eqb, ltb, leb}
@@ -26,12 +26,13 @@ use Rattle.scheme.proofs.Answering.{Given, given-given, given-number, judgement
 use Rattle.board_keys.specs.Keys.{keySetup, opened, keyOpening, openKeyRules}
 use Rattle.board_keys.proofs.Opened.{KeyOpeningIs, positions, no-row, no-vector, keyOpening-is}
 use Rattle.record_layouts.specs.Words.{wordAt}
-use Rattle.record_layouts.specs.Records.{markSU, pairAt, verdictAt, setupAt, setupSize, dealingSize, dealingAt, dealingG, dealingH, parts, mappedParts, writeRules, readRules, writeSetupRules, readSetupRules, readMatrixRules, readDealingRules, readMappedRules, standingRules, dealingLayout, mappedLayout, pairLayout, mappedPairLayout, verdictLayout, shareLayout}
+use Rattle.record_layouts.specs.declared.DealingRecord.{DealingRecord}
+use Rattle.record_layouts.specs.Records.{markSU, pairAt, verdictAt, setupAt, setupSize, dealingAt, dealingG, dealingH, parts, mappedParts, writeRules, readRules, writeSetupRules, readSetupRules, readMatrixRules, readDealingRules, readMappedRules, standingRules, dealingLayout, mappedLayout, pairLayout, mappedPairLayout, verdictLayout, shareLayout}
 use Rattle.file_records.specs.declared.Head.{Head}
-use Rattle.file_records.specs.Received.{place, pairRules, pairFault, verdictRules, verdictFault, recordFault, faultAt, reached, valuesAt, verdictsAt}
+use Rattle.file_records.specs.Received.{records, place, pairRules, pairFault, verdictRules, verdictFault, recordFault, faultAt, reached}
 use Rattle.file_records.proofs.Reading.{record-by}
 use Rattle.file_reading.specs.Contents.{Contents, judgement, verdictOf}
-use Rattle.file_reading.specs.File.{FileRead, refusedAt, whole, numberOf, setupFault, dealingFault, headOf, contentsOf, ofContents, orRefused, ofReceived, ofDealing, readFile}
+use Rattle.file_reading.specs.File.{FileRead, refusedAt, whole, setupFault, dealingFault, hasMap, mappedRules, mappedFault, firstByte, start, headOf, ofContents, orRefused, ofReceived, ofMapped, ofDealing, readFile, numberOf}
 use Rattle.holder_file.specs.Text.{textOf}
 use Rattle.holder_file.specs.Calls.{fileAnswer, lentFile}
 use Rattle.demand.specs.Retired.{retired, NotGiven, NeverGiven}
@@ -77,11 +78,12 @@ key-other s xs = go (keyOpening-is s xs)
 fault-other : (h : Head) (t : List ℕ) (k : ℕ) → Other (faultAt h t k)
 unfolding faultAt pairFault verdictFault
 fault-other h t k =
-    let at = place (h .n) k in
+    let at = place h k in
     let u = drop at t in
-    picked Other (leb (length t) at) (pick (ltb k (2 * h .n)) 11 0) (recordFault h k (drop at t))
-    (picked Other (ltb k (2 * h .n)) 11 0 (is-other 11 refl) (is-other 0 refl))
-    (record-by Other h k u (is-other 3 refl) (is-other 8 refl) (is-other 10 refl) (by-table (pairRules h k (length u) (pairAt u)) tt) (by-table (verdictRules h k (length u) (verdictAt u)) tt))
+    picked Other (leb (length t) at) (pick (ltb k (records h)) 11 0) (recordFault h k u)
+    (picked Other (ltb k (records h)) 11 0 (is-other 11 refl) (is-other 0 refl))
+    (record-by Other h k u (is-other 3 refl) (is-other 8 refl) (is-other 10 refl) (λ first. by-table (pairRules h k first (length u) (pairAt u)) tt)
+    (by-table (verdictRules h k (length u) (verdictAt u)) tt))
 
 abbrev Reads : FileRead → Type 0
 Reads x = Other (numberOf x)
@@ -95,20 +97,32 @@ unfolding ofContents
 contents-reads C n =
     picked Reads (eqb (at (C .verdicts) (C .holder)) (verdictOf (judgement C))) (whole C) (refusedAt 13 n) (is-other 0 refl) (is-other 13 refl)
 
+received-reads : (S : Setup) (x : DealingRecord) (g h : List ℕ) (b : Bool) (s : List ℕ) → Reads (ofReceived S x g h b s)
+unfolding ofReceived
+received-reads S x g h b s =
+    let head = headOf S x b in
+    let t = drop (start S b) s in
+    or-reads (faultAt head t (reached head t)) _ _ (fault-other head t (reached head t)) (contents-reads _ (length s))
+
+mapped-reads : (S : Setup) (x : DealingRecord) (g h s : List ℕ) → Reads (ofMapped S x g h s)
+unfolding ofMapped mappedFault
+mapped-reads S x g h s =
+    let t = drop (firstByte S) s in
+    or-reads (mappedFault S x t) (firstByte S) (ofReceived S x g h (hasMap t) s)
+    (picked Other (hasMap t) (refusal (mappedRules S x t)) 0 (by-table (mappedRules S x t) tt) (is-other 0 refl))
+    (received-reads S x g h (hasMap t) s)
+
 file-reads : (s : List ℕ) → Reads (readFile s)
-unfolding readFile ofDealing ofReceived setupFault dealingFault
+unfolding readFile ofDealing setupFault dealingFault
 file-reads s =
     let S = setupAt s in
     let t = drop (setupSize S) s in
-    let h = headOf S (dealingAt t) in
-    let sent = drop (setupSize S + dealingSize S) s in
-    let C = contentsOf S (dealingAt t) (dealingG S t) (dealingH S t) (valuesAt (S .n) sent) (verdictsAt (S .n) sent) in
     or-reads (setupFault s) 0 (ofDealing S s)
     (picked Other (eqb (length s) 0) 11 (refusal (readSetupRules s)) (is-other 11 refl) (by-table (readSetupRules s) tt))
-    (or-reads (dealingFault S t) (setupSize S) (ofReceived S (dealingAt t) (dealingG S t) (dealingH S t) s)
+    (or-reads (dealingFault S t) (setupSize S) (ofMapped S (dealingAt t) (dealingG S t) (dealingH S t) s)
     (picked Other (eqb (length t) 0) 11 _ (is-other 11 refl)
     (picked Other (not (ltb (length t) 2) && eqb (wordAt t 0) markSU) 10 _ (is-other 10 refl) (by-table (standingRules dealingLayout S t) tt)))
-    (or-reads (faultAt h sent (reached h sent)) _ (ofContents C (length s)) (fault-other h sent (reached h sent)) (contents-reads C (length s))))
+    (mapped-reads S (dealingAt t) (dealingG S t) (dealingH S t) s))
 
 read-answer : (values : Contents → List ℕ) (x : FileRead) → Reads x → NotGiven (fileAnswer values x)
 read-answer values (refusedAt k byte) n = n
@@ -152,6 +166,6 @@ never-given =
       read-verdict = λ S s. answers (readRules verdictLayout S [] s) _ tt (given-given _);
       write-share = λ S x out. answers (writeRules shareLayout S x (length out)) _ tt (given-given []);
       read-share = λ S s. answers (readRules shareLayout S [] s) _ tt (given-given _);
-      file-text = λ s out. answer-by (lentFile s out 256) _ tt (read-answer (λ C. length (textOf C) ∷ []) (readFile s) (file-reads s));
-      file-contents = λ s out. answer-by (lentFile s out 18) _ tt (read-answer (λ C. []) (readFile s) (file-reads s));
+      file-text = λ s out. answer-by (lentFile s out 512) _ tt (read-answer (λ C. length (textOf C) ∷ []) (readFile s) (file-reads s));
+      file-contents = λ s out. answer-by (lentFile s out 27) _ tt (read-answer (λ C. []) (readFile s) (file-reads s));
     }

@@ -75,6 +75,10 @@ pub record InLimits (S : Setup) {I : Type 0} (ts : Terms I) : Type 0 where
   pub columns : (t : ℕ) → t < ts .count → ts .column t < S .l
   pub constants : (t : ℕ) → t < ts .count → ts .constant t < S .p
 
+-- "One column opened by itself is the list of one term with constant 1."
+abbrev pub oneColumn : {I : Type 0} → I → ℕ → Terms I
+oneColumn t b = record { count = 1; constant = λ _. 1; dealing = λ _. t; column = λ _. b }
+
 abbrev pub constants : {I : Type 0} → Terms I → List ℕ
 constants ts = tab (ts .count) (ts .constant)
 

@@ -5,7 +5,7 @@
 -- MappedDealing: a dealing with a map, as it ended at each holder; firstDealing, secondDealing: its two dealings, as Demand.antt has a dealing
 -- Which: a plain dealing, or the first or the second of a dealing with a map; together: all dealings as one family
 -- KeepsMapped: a member kept its shares of both by the rules; DoneWithMaps: what was done before
--- oneColumn: a list of one column by itself; firsts, seconds: a list over dealings with a map, taken from their first or their second dealings
+-- firsts, seconds: a list over dealings with a map, taken from their first or their second dealings
 -- SecretAndMap: two openings found a secret and its map
 -- FoundWithMaps: what is found
 -- MapInputs: what a dealing with a map is made from; HonestMapped: all follow the rules and every message arrives
@@ -24,7 +24,7 @@ use Rattle.scheme.specs.Setup.{Setup, dim}
 use Rattle.scheme.specs.Answers.{accepts, kept, yes}
 use Rattle.scheme.specs.Dealing.{image}
 use Rattle.scheme.specs.Calls.{Buffers, dealMappedCall, dealMappedLeft, secondDealt, pairValueCall, judgeMappedCall, outcomeCall, outcomeLeft, determinesCall, openCall, openLeft}
-use Rattle.demand.specs.Demand.{Dealing, Member, Done, Terms, InLimits, Present, Handed, handedIn, Array, column, ExactlyOne, secretsOver, Opens, Found, Honest, arrayDealt}
+use Rattle.demand.specs.Demand.{Dealing, Member, Done, Terms, oneColumn, InLimits, Present, Handed, handedIn, Array, column, ExactlyOne, secretsOver, Opens, Found, Honest, arrayDealt}
 
 -- WHAT IS GIVEN
 
@@ -85,10 +85,6 @@ pub record DoneWithMaps (S : Setup) (group : ℕ) {I K : Type 0} (D : I → Deal
   pub delivered2 : (t : K) (i j : ℕ) → Member S group i → Member S group j → pairValueCall S (T t .g2 j) i ≡ given (at (T t .values2 i) j ∷ [])
 
 -- WHAT IS FOUND
-
--- document 01's "One column opened by itself is the list of one term with constant 1"
-abbrev pub oneColumn : {I : Type 0} → I → ℕ → Terms I
-oneColumn t b = record { count = 1; constant = λ _. 1; dealing = λ _. t; column = λ _. b }
 
 abbrev pub firsts : {I K : Type 0} → Terms K → Terms (Which I K)
 firsts ts = record { count = ts .count; constant = ts .constant; dealing = λ s. first (ts .dealing s); column = ts .column }

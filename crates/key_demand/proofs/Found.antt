@@ -24,10 +24,10 @@ use Rattle.scheme.proofs.Calls.{vec-of, open-ok, open-accepts}
 use Rattle.scheme.proofs.Answering.{OpeningIs, secrets, by-six, by-seven, opening-is}
 use Rattle.board_keys.specs.Keys.{keySetup, memberCount, columnShares, columnOpened, keyOpening, openKeyRules, openKeyCall, openKeyLeft}
 use Rattle.board_keys.proofs.Opened.{key-members, key-set, openKey-by-shares, openKey-gives, openKey-declines, column-vec, columns-below, columnShares-flat, keyOf, four-answered, key-or-seven}
-use Rattle.demand.specs.Demand.{Dealing, Member, Done, InLimits, Present, handedIn, column, secretsOver, Opens, Refused, Found}
+use Rattle.demand.specs.Demand.{Dealing, Member, Done, oneColumn, InLimits, Present, handedIn, column, secretsOver, Opens, Refused, Found}
 use Rattle.demand.specs.Demand as plain
 use Rattle.demand.proofs.Demand.{demand3}
-use Rattle.key_demand.specs.Keys.{KeyOpens, oneColumn, KeyHanded, positions, KeyRefused, by-four, by-sixteen, KeyFound, keyHandedIn}
+use Rattle.key_demand.specs.Keys.{KeyOpens, KeyHanded, positions, KeyRefused, by-four, by-sixteen, KeyFound, keyHandedIn}
 use Rattle.key_demand.specs.Keys as key
 
 -- ANSWERS OF ONE COLUMN

@@ -19,7 +19,7 @@ use Rattle.scheme.specs.Answers.{yes, no, undetermined, inconsistent}
 use Rattle.scheme.specs.Sets.{holds, members}
 use Rattle.scheme.specs.Calls.{determinesCall, privateCall}
 use Rattle.board_keys.specs.Keys.{keySetup, dealKeyCall, dealKeyLeftG, memberCount, columnShares, openKeyCall, openKeyLeft}
-use Rattle.demand.specs.Demand.{Dealing, Member, Done, Terms, Present, Handed, handedIn, Array, column, ExactlyOne, Honest}
+use Rattle.demand.specs.Demand.{Dealing, Member, Done, oneColumn, Present, Handed, handedIn, Array, column, ExactlyOne, Honest}
 
 -- WHICH DEPOTS: "every seven depots" bring the key back, and no fewer; three and no more are private: every position has a sweeping vector. That a private
 -- set learns nothing is request A14
@@ -49,10 +49,6 @@ KeyBack =
     → KeyOpens s (dealtShares s (dealKeyLeftG key random gs hs)) out key
 
 -- DEMAND 3 FOR A KEY
--- column b of dealing t opened by itself: "the list of one term with constant 1"
-abbrev pub oneColumn : {I : Type 0} → I → ℕ → Terms I
-oneColumn t b = record { count = 1; constant = λ _. 1; dealing = λ _. t; column = λ _. b }
-
 -- what the openers hand in for each of the four columns of dealing t: the group's members by the rules, the others anything
 pub record KeyHanded (group : ℕ) {I : Type 0} (D : I → Dealing) (t : I) (openers : ℕ) (handed : List ℕ) : Type 0 where
   pub count : length handed ≡ 4 * memberCount openers
