@@ -256,10 +256,7 @@ pub fn deal_mapped(
     h2: &mut [u16],
 ) -> Written
     ensures { λ r. ⌜ paperWritten r ≡ dealMappedCall (setupOf s (now (matrix .entry))) (now (secrets .entry)) (now (random .entry)) (now (phi .entry)) (now (random2 .entry)) holder (buffers (now (g .entry)) (now (h .entry)) (now (g2 .entry)) (now (h2 .entry))) ⌝ }
-    ensures { λ _. ⌜ now (g .exit) ≡ dealMappedLeft (setupOf s (now (matrix .entry))) (now (secrets .entry)) (now (random .entry)) (now (phi .entry)) (now (random2 .entry)) holder (buffers (now (g .entry)) (now (h .entry)) (now (g2 .entry)) (now (h2 .entry))) .g ⌝ }
-    ensures { λ _. ⌜ now (h .exit) ≡ dealMappedLeft (setupOf s (now (matrix .entry))) (now (secrets .entry)) (now (random .entry)) (now (phi .entry)) (now (random2 .entry)) holder (buffers (now (g .entry)) (now (h .entry)) (now (g2 .entry)) (now (h2 .entry))) .h ⌝ }
-    ensures { λ _. ⌜ now (g2 .exit) ≡ dealMappedLeft (setupOf s (now (matrix .entry))) (now (secrets .entry)) (now (random .entry)) (now (phi .entry)) (now (random2 .entry)) holder (buffers (now (g .entry)) (now (h .entry)) (now (g2 .entry)) (now (h2 .entry))) .g2 ⌝ }
-    ensures { λ _. ⌜ now (h2 .exit) ≡ dealMappedLeft (setupOf s (now (matrix .entry))) (now (secrets .entry)) (now (random .entry)) (now (phi .entry)) (now (random2 .entry)) holder (buffers (now (g .entry)) (now (h .entry)) (now (g2 .entry)) (now (h2 .entry))) .h2 ⌝ }
+    ensures { λ _. ⌜ buffers (now (g .exit)) (now (h .exit)) (now (g2 .exit)) (now (h2 .exit)) ≡ dealMappedLeft (setupOf s (now (matrix .entry))) (now (secrets .entry)) (now (random .entry)) (now (phi .entry)) (now (random2 .entry)) holder (buffers (now (g .entry)) (now (h .entry)) (now (g2 .entry)) (now (h2 .entry))) ⌝ }
 {
     let d = s.dim();
     let lent = mapped_refusal(
@@ -302,10 +299,7 @@ pub fn deal_mapped_all(
     hs2: &mut [u16],
 ) -> Written
     ensures { λ r. ⌜ paperWritten r ≡ dealMappedAllCall (setupOf s (now (matrix .entry))) (now (secrets .entry)) (now (random .entry)) (now (phi .entry)) (now (random2 .entry)) (buffers (now (gs .entry)) (now (hs .entry)) (now (gs2 .entry)) (now (hs2 .entry))) ⌝ }
-    ensures { λ _. ⌜ now (gs .exit) ≡ dealMappedAllLeft (setupOf s (now (matrix .entry))) (now (secrets .entry)) (now (random .entry)) (now (phi .entry)) (now (random2 .entry)) (buffers (now (gs .entry)) (now (hs .entry)) (now (gs2 .entry)) (now (hs2 .entry))) .g ⌝ }
-    ensures { λ _. ⌜ now (hs .exit) ≡ dealMappedAllLeft (setupOf s (now (matrix .entry))) (now (secrets .entry)) (now (random .entry)) (now (phi .entry)) (now (random2 .entry)) (buffers (now (gs .entry)) (now (hs .entry)) (now (gs2 .entry)) (now (hs2 .entry))) .h ⌝ }
-    ensures { λ _. ⌜ now (gs2 .exit) ≡ dealMappedAllLeft (setupOf s (now (matrix .entry))) (now (secrets .entry)) (now (random .entry)) (now (phi .entry)) (now (random2 .entry)) (buffers (now (gs .entry)) (now (hs .entry)) (now (gs2 .entry)) (now (hs2 .entry))) .g2 ⌝ }
-    ensures { λ _. ⌜ now (hs2 .exit) ≡ dealMappedAllLeft (setupOf s (now (matrix .entry))) (now (secrets .entry)) (now (random .entry)) (now (phi .entry)) (now (random2 .entry)) (buffers (now (gs .entry)) (now (hs .entry)) (now (gs2 .entry)) (now (hs2 .entry))) .h2 ⌝ }
+    ensures { λ _. ⌜ buffers (now (gs .exit)) (now (hs .exit)) (now (gs2 .exit)) (now (hs2 .exit)) ≡ dealMappedAllLeft (setupOf s (now (matrix .entry))) (now (secrets .entry)) (now (random .entry)) (now (phi .entry)) (now (random2 .entry)) (buffers (now (gs .entry)) (now (hs .entry)) (now (gs2 .entry)) (now (hs2 .entry))) ⌝ }
 {
     let size = s.matrix_len();
     let refusal = mapped_refusal(

@@ -7,7 +7,7 @@ use Rattle.base.proofs.Rules.{declined, unchanged}
 use Rattle.scheme.specs.Setup.{setupOf}
 use Rattle.scheme.specs.Calls.{buffers}
 use Rattle.scheme.proofs.Calls.{dealMapped-ok}
-use Rattle.dealing.proofs.Parts.{dealt-room, mapped-room, dealt-array, mapped-array, held-g, held-h}
+use Rattle.dealing.proofs.Parts.{same-buffers, dealt-room, mapped-room, dealt-array, mapped-array, held-g, held-h}
 use Rattle.dealing.proofs.deal_mapped.Statement.{statement}
 use Rattle.dealing.proofs.deal_mapped.Tie as tie
 
@@ -26,7 +26,7 @@ returns c =
     let t = c .if1 .taken in
     let lent = rw (c .before .before .before .before .dim .ensures .0) at (c .before .before .before .mapped-refusal .ensures) in
     let r = c .before .or-when .ensures ∙ ap (λ k. orWhen k 5 (leb (x .s .n) (x .holder))) lent in
-    rw (← r) (declined _ _ t, (unchanged _ _ _ t, (unchanged _ _ _ t, (unchanged _ _ _ t, unchanged _ _ _ t))))
+    rw (← r) (declined _ _ t, same-buffers (unchanged _ _ _ t) (unchanged _ _ _ t) (unchanged _ _ _ t) (unchanged _ _ _ t))
 
 slice-aggregate-fill-dealt : tie.Need-slice-aggregate-fill-dealt
 slice-aggregate-fill-dealt c = search needs
@@ -115,10 +115,11 @@ returns-2 c =
     let W2 = c .before .before .before .before .write-part2 .ensures in
     rw z (
       refl,
-      (
-        W .0 ∙ held-g S _ _ F (x .holder),
-        (W .1 ∙ held-h S _ _ F (x .holder), (W2 .0 ∙ held-g S _ _ F2 (x .holder), W2 .1 ∙ held-h S _ _ F2 (x .holder))),
-      ),
+      same-buffers
+          (W .0 ∙ held-g S _ _ F (x .holder))
+          (W .1 ∙ held-h S _ _ F (x .holder))
+          (W2 .0 ∙ held-g S _ _ F2 (x .holder))
+          (W2 .1 ∙ held-h S _ _ F2 (x .holder)),
     )
 
 pub deal-mapped-spec : {M : Type 1} → statement M

@@ -5,7 +5,7 @@ use Rattle.base.proofs.Rules.{declined, unchanged}
 use Rattle.scheme.specs.Setup.{setupOf}
 use Rattle.scheme.specs.Calls.{buffers}
 use Rattle.scheme.proofs.Calls.{dealMappedAll-ok}
-use Rattle.dealing.proofs.Parts.{dealt-room, mapped-room, dealt-array, mapped-array, all-g, all-h, all-room}
+use Rattle.dealing.proofs.Parts.{same-buffers, dealt-room, mapped-room, dealt-array, mapped-array, all-g, all-h, all-room}
 use Rattle.dealing.proofs.deal_mapped_all.Statement.{statement}
 use Rattle.dealing.proofs.deal_mapped_all.Tie as tie
 
@@ -19,7 +19,7 @@ returns : tie.Need-returns
 returns c =
     let t = c .if1 .taken in
     let r = rw (c .before .before .matrix-len .ensures) at (c .before .mapped-refusal .ensures) in
-    rw (← r) (declined _ _ t, (unchanged _ _ _ t, (unchanged _ _ _ t, (unchanged _ _ _ t, unchanged _ _ _ t))))
+    rw (← r) (declined _ _ t, same-buffers (unchanged _ _ _ t) (unchanged _ _ _ t) (unchanged _ _ _ t) (unchanged _ _ _ t))
 
 dim-requires : tie.Need-dim-requires
 dim-requires c κs = search needs
@@ -110,13 +110,11 @@ returns-2 c =
     let W2 = c .before .before .before .before .write-all2 .ensures in
     rw z (
       refl,
-      (
-        rw d at (W .0) ∙ all-g S _ _ F (x .gs .now) (ok .1 .g),
-        (
-          rw d at (W .1) ∙ all-h S _ _ F (x .hs .now) (ok .1 .h),
-          (rw d at (W2 .0) ∙ all-g S _ _ F2 (x .gs2 .now) (ok .1 .g2), rw d at (W2 .1) ∙ all-h S _ _ F2 (x .hs2 .now) (ok .1 .h2)),
-        ),
-      ),
+      same-buffers
+          (rw d at (W .0) ∙ all-g S _ _ F (x .gs .now) (ok .1 .g))
+          (rw d at (W .1) ∙ all-h S _ _ F (x .hs .now) (ok .1 .h))
+          (rw d at (W2 .0) ∙ all-g S _ _ F2 (x .gs2 .now) (ok .1 .g2))
+          (rw d at (W2 .1) ∙ all-h S _ _ F2 (x .hs2 .now) (ok .1 .h2)),
     )
 
 pub deal-mapped-all-spec : {M : Type 1} → statement M
