@@ -21,7 +21,7 @@ use Rattle.field.specs.Dot.{at, dot, along}
 use Rattle.field.proofs.Dot.{dot-comm, dot-ext, dot-same}
 use Rattle.scheme.specs.Setup.{Setup, dim, row, IsSetup}
 use Rattle.scheme.specs.Dealing.{place, dealtEntry, dealt, partG, partH, imageAt, mappedEntry, dealtMapped}
-use Rattle.scheme.specs.Calls.{toAll}
+use Rattle.scheme.specs.Calls.{toAll, buffers}
 use Rattle.scheme.proofs.Calls.{DealOk, DealMappedOk, limits-pos, below-vec}
 use Rattle.parts.specs.Inner.{lineEntry, entryH, entryG, PartRoom, AllRoom}
 use Rattle.parts.proofs.Parts.{square-fits, lines-inside}
@@ -260,3 +260,6 @@ module _ (S : Setup) (F A : List ℕ) (array : Array S F A) where
         record { above = pos; small = few S ok; rows = ok .matrix .size; square = array .long; fits = (a, b) },
         (below-vec (S .p) _ (S .M) pos (ok .matrix), (array .small, ok .limits .field)),
       )
+
+pub same-buffers : {a b c d e f g h : List ℕ} → a ≡ e → b ≡ f → c ≡ g → d ≡ h → buffers a b c d ≡ buffers e f g h
+same-buffers p q r s = rw (p, q, r, s) refl

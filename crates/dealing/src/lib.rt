@@ -11,9 +11,9 @@ ghost use Rattle.field.specs.Dot.{along};
 ghost use Rattle.scheme.specs.Setup.{setupOf};
 ghost use Rattle.scheme.specs.Answers.{paperWritten};
 ghost use Rattle.scheme.specs.Dealing.{dealtEntry, mappedEntry, partG, partH};
-ghost use Rattle.scheme.specs.Calls.{limits, sizes, inField, table, room, dealLent, dealRules, dealCall, dealLeftG, dealLeftH, dealAllRules, dealAllCall, dealAllLeftG, dealAllLeftH, buffers, dealMappedLent, dealMappedRules, dealMappedCall, dealMappedLeft, dealMappedAllCall, dealMappedAllLeft};
+ghost use Rattle.scheme.specs.Calls.{limits, sizes, inField, table, room, dealLent, dealRules, dealCall, dealLeftG, dealLeftH, dealAllRules, dealAllCall, dealAllLeftG, dealAllLeftH, buffers, dealMappedCall, dealMappedLeft, dealMappedAllCall, dealMappedAllLeft};
 ghost use Rattle.parts.specs.Inner.{lineEntry};
-ghost use Rattle.dealing.specs.Inner.{sized, DealtRoom, RowRoom, MappedRoom, HolderRoom};
+ghost use Rattle.dealing.specs.Inner.{sized, DealtRoom, RowRoom, MappedRoom, HolderRoom, mappedLent};
 use scheme::Params;
 use scheme::Written;
 
@@ -205,17 +205,17 @@ pub fn deal_all(
 }
 
 // DEAL WITH A MAP
-// Refusal 3 of the four buffers of a dealing with a map.
-fn or_buffers(standing: u16, needed: usize, g: &[u16], h: &[u16], g2: &[u16], h2: &[u16]) -> u16
-    ensures { λ r. ⌜ r ≡ refusalFrom standing (sizes (room (length (now (g .entry))) needed ∷ room (length (now (h .entry))) needed ∷ room (length (now (g2 .entry))) needed ∷ room (length (now (h2 .entry))) needed ∷ [])) ⌝ }
+// Refusal 3 of the four buffers of a dealing with a map, by their lengths.
+fn or_buffers(standing: u16, needed: usize, g: usize, h: usize, g2: usize, h2: usize) -> u16
+    ensures { λ r. ⌜ r ≡ refusalFrom standing (sizes (room g needed ∷ room h needed ∷ room g2 needed ∷ room h2 needed ∷ [])) ⌝ }
 {
-    let a = scheme::or_size(standing, g.len(), needed);
-    let b = scheme::or_size(a, h.len(), needed);
-    let c = scheme::or_size(b, g2.len(), needed);
-    scheme::or_size(c, h2.len(), needed)
+    let a = scheme::or_size(standing, g, needed);
+    let b = scheme::or_size(a, h, needed);
+    let c = scheme::or_size(b, g2, needed);
+    scheme::or_size(c, h2, needed)
 }
 
-// Refusals 1 to 4 of the calls that deal with a map: they are lent the same but for the entries needed in a buffer.
+// Refusals 1 to 4 of the calls that deal with a map, with the lengths of the four buffers: the calls differ in the length needed.
 fn mapped_refusal(
     s: Params,
     matrix: &[u16],
@@ -224,12 +224,12 @@ fn mapped_refusal(
     phi: &[u16],
     random2: &[u16],
     needed: usize,
-    g: &[u16],
-    h: &[u16],
-    g2: &[u16],
-    h2: &[u16],
+    g: usize,
+    h: usize,
+    g2: usize,
+    h2: usize,
 ) -> u16
-    ensures { λ r. ⌜ r ≡ refusal (table (setupOf s (now (matrix .entry))) (dealMappedLent (setupOf s (now (matrix .entry))) (now (secrets .entry)) (now (random .entry)) (now (phi .entry)) (now (random2 .entry)) needed (buffers (now (g .entry)) (now (h .entry)) (now (g2 .entry)) (now (h2 .entry)))) []) ⌝ }
+    ensures { λ r. ⌜ r ≡ refusal (table (setupOf s (now (matrix .entry))) (mappedLent (setupOf s (now (matrix .entry))) (now (secrets .entry)) (now (random .entry)) (now (phi .entry)) (now (random2 .entry)) needed g h g2 h2) []) ⌝ }
 {
     let l = s.l as usize;
     let a = inputs_refusal(s, matrix, secrets, random);
@@ -239,26 +239,6 @@ fn mapped_refusal(
     let e = or_inputs(d, s, matrix, secrets, random);
     let f = scheme::or_elements(e, s.p, phi);
     scheme::or_elements(f, s.p, random2)
-}
-
-fn deal_mapped_refusal(
-    s: Params,
-    matrix: &[u16],
-    secrets: &[u16],
-    random: &[u16],
-    phi: &[u16],
-    random2: &[u16],
-    holder: u16,
-    g: &[u16],
-    h: &[u16],
-    g2: &[u16],
-    h2: &[u16],
-) -> u16
-    ensures { λ r. ⌜ r ≡ refusal (dealMappedRules (setupOf s (now (matrix .entry))) (now (secrets .entry)) (now (random .entry)) (now (phi .entry)) (now (random2 .entry)) holder (buffers (now (g .entry)) (now (h .entry)) (now (g2 .entry)) (now (h2 .entry)))) ⌝ }
-{
-    let d = s.dim();
-    let lent = mapped_refusal(s, matrix, secrets, random, phi, random2, d, g, h, g2, h2);
-    base::or_when(lent, 5, s.n <= holder)
 }
 
 // A holder's part of a dealing, and its part of the second dealing, whose array is the map of the first.
@@ -276,24 +256,23 @@ pub fn deal_mapped(
     h2: &mut [u16],
 ) -> Written
     ensures { λ r. ⌜ paperWritten r ≡ dealMappedCall (setupOf s (now (matrix .entry))) (now (secrets .entry)) (now (random .entry)) (now (phi .entry)) (now (random2 .entry)) holder (buffers (now (g .entry)) (now (h .entry)) (now (g2 .entry)) (now (h2 .entry))) ⌝ }
-    ensures { λ _. ⌜ now (g .exit) ≡ dealMappedLeft (setupOf s (now (matrix .entry))) (now (secrets .entry)) (now (random .entry)) (now (phi .entry)) (now (random2 .entry)) holder (buffers (now (g .entry)) (now (h .entry)) (now (g2 .entry)) (now (h2 .entry))) .g ⌝ }
-    ensures { λ _. ⌜ now (h .exit) ≡ dealMappedLeft (setupOf s (now (matrix .entry))) (now (secrets .entry)) (now (random .entry)) (now (phi .entry)) (now (random2 .entry)) holder (buffers (now (g .entry)) (now (h .entry)) (now (g2 .entry)) (now (h2 .entry))) .h ⌝ }
-    ensures { λ _. ⌜ now (g2 .exit) ≡ dealMappedLeft (setupOf s (now (matrix .entry))) (now (secrets .entry)) (now (random .entry)) (now (phi .entry)) (now (random2 .entry)) holder (buffers (now (g .entry)) (now (h .entry)) (now (g2 .entry)) (now (h2 .entry))) .g2 ⌝ }
-    ensures { λ _. ⌜ now (h2 .exit) ≡ dealMappedLeft (setupOf s (now (matrix .entry))) (now (secrets .entry)) (now (random .entry)) (now (phi .entry)) (now (random2 .entry)) holder (buffers (now (g .entry)) (now (h .entry)) (now (g2 .entry)) (now (h2 .entry))) .h2 ⌝ }
+    ensures { λ _. ⌜ buffers (now (g .exit)) (now (h .exit)) (now (g2 .exit)) (now (h2 .exit)) ≡ dealMappedLeft (setupOf s (now (matrix .entry))) (now (secrets .entry)) (now (random .entry)) (now (phi .entry)) (now (random2 .entry)) holder (buffers (now (g .entry)) (now (h .entry)) (now (g2 .entry)) (now (h2 .entry))) ⌝ }
 {
-    let refusal = deal_mapped_refusal(
+    let d = s.dim();
+    let lent = mapped_refusal(
         s,
         matrix,
         secrets,
         random,
         phi,
         random2,
-        holder,
-        g,
-        h,
-        g2,
-        h2,
+        d,
+        g.len(),
+        h.len(),
+        g2.len(),
+        h2.len(),
     );
+    let refusal = base::or_when(lent, 5, s.n <= holder);
     if refusal != 0 {
         return Written::Refused(refusal);
     }
@@ -320,10 +299,7 @@ pub fn deal_mapped_all(
     hs2: &mut [u16],
 ) -> Written
     ensures { λ r. ⌜ paperWritten r ≡ dealMappedAllCall (setupOf s (now (matrix .entry))) (now (secrets .entry)) (now (random .entry)) (now (phi .entry)) (now (random2 .entry)) (buffers (now (gs .entry)) (now (hs .entry)) (now (gs2 .entry)) (now (hs2 .entry))) ⌝ }
-    ensures { λ _. ⌜ now (gs .exit) ≡ dealMappedAllLeft (setupOf s (now (matrix .entry))) (now (secrets .entry)) (now (random .entry)) (now (phi .entry)) (now (random2 .entry)) (buffers (now (gs .entry)) (now (hs .entry)) (now (gs2 .entry)) (now (hs2 .entry))) .g ⌝ }
-    ensures { λ _. ⌜ now (hs .exit) ≡ dealMappedAllLeft (setupOf s (now (matrix .entry))) (now (secrets .entry)) (now (random .entry)) (now (phi .entry)) (now (random2 .entry)) (buffers (now (gs .entry)) (now (hs .entry)) (now (gs2 .entry)) (now (hs2 .entry))) .h ⌝ }
-    ensures { λ _. ⌜ now (gs2 .exit) ≡ dealMappedAllLeft (setupOf s (now (matrix .entry))) (now (secrets .entry)) (now (random .entry)) (now (phi .entry)) (now (random2 .entry)) (buffers (now (gs .entry)) (now (hs .entry)) (now (gs2 .entry)) (now (hs2 .entry))) .g2 ⌝ }
-    ensures { λ _. ⌜ now (hs2 .exit) ≡ dealMappedAllLeft (setupOf s (now (matrix .entry))) (now (secrets .entry)) (now (random .entry)) (now (phi .entry)) (now (random2 .entry)) (buffers (now (gs .entry)) (now (hs .entry)) (now (gs2 .entry)) (now (hs2 .entry))) .h2 ⌝ }
+    ensures { λ _. ⌜ buffers (now (gs .exit)) (now (hs .exit)) (now (gs2 .exit)) (now (hs2 .exit)) ≡ dealMappedAllLeft (setupOf s (now (matrix .entry))) (now (secrets .entry)) (now (random .entry)) (now (phi .entry)) (now (random2 .entry)) (buffers (now (gs .entry)) (now (hs .entry)) (now (gs2 .entry)) (now (hs2 .entry))) ⌝ }
 {
     let size = s.matrix_len();
     let refusal = mapped_refusal(
@@ -334,20 +310,21 @@ pub fn deal_mapped_all(
         phi,
         random2,
         size,
-        gs,
-        hs,
-        gs2,
-        hs2,
+        gs.len(),
+        hs.len(),
+        gs2.len(),
+        hs2.len(),
     );
     if refusal != 0 {
         return Written::Refused(refusal);
     }
     let d = s.dim();
+    let n = s.n as usize;
     let mut f = [0u16; 256];
     fill_dealt(s, secrets, random, &mut f);
     let mut f2 = [0u16; 256];
     fill_mapped(s, phi, random2, &f, &mut f2);
-    parts::write_all(s.p, d, s.n as usize, matrix, &f, gs, hs);
-    parts::write_all(s.p, d, s.n as usize, matrix, &f2, gs2, hs2);
+    parts::write_all(s.p, d, n, matrix, &f, gs, hs);
+    parts::write_all(s.p, d, n, matrix, &f2, gs2, hs2);
     Written::Done
 }

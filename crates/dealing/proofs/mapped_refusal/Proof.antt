@@ -14,7 +14,7 @@ inputs-refusal-requires c κs = search needs
 
 mul-or-size : tie.Need-mul-or-size
 mul-or-size c =
-    let l = c .before .before .before .before .before .before .before .before .before .before .before .args .s .l in
+    let l = c .before .before .before .before .before .before .before .args .s .l in
     omega (arith, mul-le-mul {n₁ = l} {m₁ = l} {n₂ = 65535} {m₂ = 65535} (omega arith) (omega arith))
 
 or-size-requires : tie.Need-or-size-requires
@@ -28,7 +28,7 @@ dim-requires c κs = search needs
 
 mul-or-size-2 : tie.Need-mul-or-size-2
 mul-or-size-2 c =
-    let e = c .before .before .before .before .before .before .before .before .before .before .before .before .before .before .args .s .e in
+    let e = c .before .before .before .before .before .before .before .before .before .before .args .s .e in
     let d = c .dim .result in
     omega (arith, mul-le-mul {n₁ = e} {m₁ = d} {n₂ = 65535} {m₂ = 131070} (omega arith) (c .dim .ensures .1))
 
