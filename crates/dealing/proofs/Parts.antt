@@ -24,7 +24,7 @@ use Rattle.scheme.specs.Dealing.{place, dealtEntry, dealt, partG, partH, imageA
 use Rattle.scheme.specs.Calls.{toAll, buffers}
 use Rattle.scheme.proofs.Calls.{DealOk, DealMappedOk, limits-pos, below-vec}
 use Rattle.parts.specs.Inner.{lineEntry, entryH, entryG, PartRoom, AllRoom}
-use Rattle.parts.proofs.Parts.{square-fits, lines-inside}
+use Rattle.parts.proofs.Parts.{square-fits}
 use Rattle.dealing.specs.Inner.{sized, DealtRoom, MappedRoom, HolderRoom}
 
 -- ENTRIES
@@ -146,7 +146,7 @@ pub record Array (S : Setup) (F A : List ℕ) : Type 0 where
   pub small : Below (S .p) F
   pub holds : Holds S F A
 
-few : (S : Setup) → IsSetup S → dim S ≤ 16
+pub few : (S : Setup) → IsSetup S → dim S ≤ 16
 few S ok = omega (arith, ok .limits .secret, ok .limits .random)
 
 filled-array : (S : Setup) (E : ℕ → ℕ → ℕ) (F : List ℕ) → IsSetup S → ((k b : ℕ) → E k b < S .p)
@@ -212,7 +212,7 @@ module _ (S : Setup) (F : List ℕ) where
   unfolding partH
   one-h i h e = laid-whole _ _ (dim S) 0 h e (λ k m. entry-h i k)
 
-  lines-room : (i : ℕ) (g h out : List ℕ) (a s : ℕ) → HolderRoom S F i g h → length out ≡ dim S
+  pub lines-room : (i : ℕ) (g h out : List ℕ) (a s : ℕ) → HolderRoom S F i g h → length out ≡ dim S
       → ((j k : ℕ) → j < dim S → k < dim S → j * a + k * s < 256) → PartRoom (S .p) (dim S) (S .M) i F a s out 0
   lines-room i g h out a s r e inside =
       record {
@@ -222,12 +222,6 @@ module _ (S : Setup) (F : List ℕ) where
         lines = λ j k m q. omega (arith, inside j k m q, r .square);
         fits = omega (arith, e);
       }
-
-  pub room-h : (i : ℕ) (g h : List ℕ) → HolderRoom S F i g h → PartRoom (S .p) (dim S) (S .M) i F (dim S) 1 h 0
-  room-h i g h r = lines-room i g h h (dim S) 1 r (r .fits .1) (λ j k m q. lines-inside (dim S) (few S (r .setup)) j k m q .0)
-
-  pub room-g : (i : ℕ) (g h : List ℕ) → HolderRoom S F i g h → PartRoom (S .p) (dim S) (S .M) i F 1 (dim S) g 0
-  room-g i g h r = lines-room i g h g 1 (dim S) r (r .fits .0) (λ j k m q. lines-inside (dim S) (few S (r .setup)) j k m q .1)
 
 -- and the parts of the matrix that it holds
 module _ (S : Setup) (F A : List ℕ) (array : Array S F A) where

@@ -50,20 +50,30 @@ fn fill_dealt(s: Params, secrets: &[u16], random: &[u16], f: &mut [u16])
 }
 
 // F_φ
-// Row k of F_φ, for k below ℓ: the products of row k of φ and the first ℓ entries of each column of F.
-fn map_row(p: u16, l: usize, d: usize, phi: &[u16], k: usize, f: &[u16], f2: &mut [u16])
-    requires { ⌜ RowRoom p l d (now phi) k (now f) (now f2) ⌝ }
-    ensures { λ _. ⌜ now (f2 .exit) ≡ laid (lineEntry p l (now (phi .entry)) (now (f .entry)) 1 d k) (k * d) d (now (f2 .entry)) ⌝ }
+// Row k of F_φ, for k below ℓ: the products of row k of φ and the first ℓ entries of d lines of F. Line b starts at b * apart and goes on by `step`.
+fn map_row(
+    p: u16,
+    l: usize,
+    d: usize,
+    phi: &[u16],
+    k: usize,
+    f: &[u16],
+    apart: usize,
+    step: usize,
+    f2: &mut [u16],
+)
+    requires { ⌜ RowRoom p l d (now phi) k (now f) apart step (now f2) ⌝ }
+    ensures { λ _. ⌜ now (f2 .exit) ≡ laid (lineEntry p l (now (phi .entry)) (now (f .entry)) apart step k) (k * d) d (now (f2 .entry)) ⌝ }
 {
     let mut b = 0;
     while b < d {
-        f2[k * d + b] = field::dot_product(p, l, phi, k * l, f, b, d);
+        f2[k * d + b] = field::dot_product(p, l, phi, k * l, f, b * apart, step);
         b += 1;
     }
 }
 
-// F_φ by rows, into the first d * d places of f2: the first ℓ entries of each column are the map of those of F, and the rows below are the second random
-// entries.
+// F_φ by rows, into the first d * d places of f2: the first ℓ entries of each column are the map of those of F's column, and the rows below are the second
+// random entries.
 fn fill_mapped(s: Params, phi: &[u16], random2: &[u16], f: &[u16], f2: &mut [u16])
     requires { ⌜ MappedRoom (s .p) (s .l) (s .e) (now phi) (now random2) (now f) (now f2) ⌝ }
     ensures { λ _. ⌜ now (f2 .exit) ≡ filled (flat (s .l + s .e) (mappedEntry (sized (s .p) (s .l) (s .e)) (now (f .entry)) (now (phi .entry)) (now (random2 .entry)))) ((s .l + s .e) * (s .l + s .e)) (now (f2 .entry)) ⌝ }
@@ -74,7 +84,7 @@ fn fill_mapped(s: Params, phi: &[u16], random2: &[u16], f: &[u16], f2: &mut [u16
     let d = l + e;
     let mut k = 0;
     while k < l {
-        map_row(p, l, d, phi, k, f, f2);
+        map_row(p, l, d, phi, k, f, 1, d, f2);
         k += 1;
     }
     copy(random2, 0, 1, e * d, f2, l * d);

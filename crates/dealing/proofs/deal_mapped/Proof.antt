@@ -1,5 +1,6 @@
 -- Where nothing is refused, the arrays hold F and F_φ, and the holder's two parts of each are written whole.
 use mathlib.Core.Path.{refl, sym, ap, _∙_}
+use native.Mathlib.Omega.{arith}
 use borrow.Author.Needs.{needs}
 use lib.Dec.{leb}
 use Rattle.base.specs.Rules.{orWhen}
@@ -86,7 +87,8 @@ write-part-requires-2 c κs =
     let z = ap (λ k. orWhen k 5 (leb (x .s .n) (x .holder))) (sym lent) ∙ sym (e .before .or-when .ensures) ∙ e .if1 .left in
     let ok = dealMapped-ok S (x .secrets .now) (x .random .now) (x .phi .now) (x .random2 .now) B (x .holder) z in
     let F = dealt-array S _ _ _ (ok .0 .first) (c .before .before .before .before .before .before .before .before .before .before .before .before .before .before .before .before .fill-dealt .ensures) in
-    record { setup = ok .0 .first .setup; square = mapped-array S _ _ _ _ _ _ _ (ok .0) F (c .before .before .before .before .before .before .before .before .before .before .before .before .fill-mapped .ensures) .long; one = ok .2; fits = (ok .1 .g2, ok .1 .h2) }
+    let F2 = mapped-array S _ _ _ _ _ _ _ (ok .0) F (c .before .before .before .before .before .before .before .before .before .before .before .before .fill-mapped .ensures) in
+    record { setup = ok .0 .first .setup; square = omega (arith, F .long, F2 .long); one = ok .2; fits = (ok .1 .g2, ok .1 .h2) }
 
 same-length : tie.Need-same-length
 same-length c = search needs

@@ -7,11 +7,11 @@ use borrow.Author.Needs.{needs}
 use lib.ListN.{length}
 use Rattle.base.specs.Matrix.{flat}
 use Rattle.base.specs.Fill.{filled}
-use Rattle.base.proofs.Matrix.{row-fits, entry-fits}
+use Rattle.base.proofs.Matrix.{row-fits}
 use Rattle.base.proofs.Fill.{filled-none, length-laid}
 use Rattle.scheme.specs.Dealing.{mappedEntry}
 use Rattle.dealing.specs.Inner.{sized}
-use Rattle.parts.proofs.Parts.{square-fits}
+use Rattle.parts.proofs.Parts.{square-fits, lines-inside}
 use Rattle.dealing.proofs.Parts.{row-mapped, mapped-ended}
 use Rattle.dealing.proofs.fill_mapped.Statement.{statement}
 use Rattle.dealing.proofs.fill_mapped.Tie as tie
@@ -39,12 +39,13 @@ map-row-requires c κs =
     let a = c .before .before in
     let s = a .before .before .before .before .before .before .before in
     let x = s .args .s in
-    let w = square-fits (x .l + x .e) (omega (arith, s .pre .small)) in
+    let few : x .l + x .e ≤ 16 = omega (arith, s .pre .small) in
+    let w = square-fits (x .l + x .e) few in
     record {
       above = s .pre .above;
-      small = s .pre .small .0;
+      small = (omega arith, s .pre .small .0);
       row = omega (arith, row-fits (x .l) (x .l) (a .loop .k) (omega arith), s .pre .map);
-      lines = λ b i m q. omega (arith, w, s .pre .squares, entry-fits (x .l + x .e) (x .l + x .e) i b (omega arith) m);
+      lines = λ b i m q. omega (arith, s .pre .squares, lines-inside (x .l + x .e) few b i m (omega arith));
       fits = omega (arith, w, s .pre .squares, a .loop .inv .1, row-fits (x .l + x .e) (x .l + x .e) (a .loop .k) (omega arith));
     }
 

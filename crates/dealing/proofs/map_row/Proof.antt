@@ -1,7 +1,7 @@
--- The first b entries are written; each is the product of row k of φ and the first ℓ entries of column b of F.
+-- The first b entries are written; each is the product of row k of φ and the first ℓ entries of line b of F.
 use Prim.Native.Nat.{_-_, _*_, _≤_}
-use mathlib.Core.Path.{_≡_, _∙_}
-use native.Mathlib.Nat.{le-antisymm, mul-one}
+use mathlib.Core.Path.{_≡_}
+use native.Mathlib.Nat.{le-antisymm}
 use native.Mathlib.Omega.{arith}
 use borrow.Author.Needs.{needs}
 use lib.ListN.{length, length-set}
@@ -12,10 +12,10 @@ use Rattle.dealing.proofs.map_row.Statement.{statement}
 use Rattle.dealing.proofs.map_row.Tie as tie
 
 abbrev Inv-loop : tie.InvT-loop
-Inv-loop p l d phi k f f2₀ b₀ f2 b = (b ≤ d) × (length f2 ≡ length f2₀) × (f2 ≡ laid (lineEntry p l phi f 1 d k) (k * d) b f2₀)
+Inv-loop p l d phi k f apart step f2₀ b₀ f2 b = (b ≤ d) × (length f2 ≡ length f2₀) × (f2 ≡ laid (lineEntry p l phi f apart step k) (k * d) b f2₀)
 
 abbrev μ-loop : tie.MeasureT-loop
-μ-loop p l d phi k f f2₀ b₀ f2 b = d - b
+μ-loop p l d phi k f apart step f2₀ b₀ f2 b = d - b
 
 loop-holds : tie.Need-loop-holds Inv-loop μ-loop
 loop-holds c = (search needs, search needs, laid-none _ _ _)
@@ -23,10 +23,15 @@ loop-holds c = (search needs, search needs, laid-none _ _ _)
 mul-dot-product : tie.Need-mul-dot-product Inv-loop μ-loop
 mul-dot-product c = search needs
 
+mul-dot-product-2 : tie.Need-mul-dot-product-2 Inv-loop μ-loop
+mul-dot-product-2 c =
+    let s = c .before .before .before .before .before in
+    omega (arith, s .pre .lines (c .before .loop .b) 0 (omega arith) (s .pre .small .0))
+
 dot-product-requires : tie.Need-dot-product-requires Inv-loop μ-loop
 dot-product-requires c κs =
     let s = c .before .before .before .before .before in
-    ((s .pre .above, omega (arith, s .pre .small), s .pre .row), λ i m. s .pre .lines (c .before .loop .b) i (omega arith) m)
+    ((s .pre .above, omega (arith, s .pre .small .1), s .pre .row), λ i m. s .pre .lines (c .before .loop .b) i (omega arith) m)
 
 mul-f2 : tie.Need-mul-f2 Inv-loop μ-loop
 mul-f2 c = search needs
@@ -50,7 +55,7 @@ loop-again : tie.Need-loop-again Inv-loop μ-loop
 unfolding lineEntry
 loop-again c =
     let l = c .before .before .loop in
-    (search needs, simp length-set (l .inv .1), laid-store _ _ _ _ _ _ (l .inv .2) (rw (mul-one (l .b)) (c .dot-product .ensures)))
+    (search needs, simp length-set (l .inv .1), laid-store _ _ _ _ _ _ (l .inv .2) (c .dot-product .ensures))
 
 same-length : tie.Need-same-length Inv-loop μ-loop
 same-length c = c .before .loop .inv .1
@@ -66,6 +71,7 @@ map-row-spec =
     μ-loop
     loop-holds
     mul-dot-product
+    mul-dot-product-2
     dot-product-requires
     mul-f2
     add-f2

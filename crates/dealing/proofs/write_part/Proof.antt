@@ -1,8 +1,10 @@
 -- What is written along the rows and along the columns is the holder's h and g, whole.
 use mathlib.Core.Path.{_∙_}
+use native.Mathlib.Omega.{arith}
 use borrow.Author.Needs.{needs}
-use Rattle.scheme.specs.Setup.{setupOf}
-use Rattle.dealing.proofs.Parts.{one-g, one-h, room-g, room-h}
+use Rattle.scheme.specs.Setup.{dim, setupOf}
+use Rattle.parts.proofs.Parts.{lines-inside}
+use Rattle.dealing.proofs.Parts.{few, one-g, one-h, lines-room}
 use Rattle.dealing.proofs.write_part.Statement.{statement}
 use Rattle.dealing.proofs.write_part.Tie as tie
 
@@ -13,13 +15,17 @@ write-one-requires : tie.Need-write-one-requires
 write-one-requires c κs =
     let s = c .before .before .before .before .before .before in
     let x = s .args in
-    rw (c .before .dim .ensures .0) (room-h (setupOf (x .s) (x .matrix .now)) _ _ (x .g .now) (x .h .now) (s .pre))
+    let S = setupOf (x .s) (x .matrix .now) in
+    rw (c .before .dim .ensures .0)
+    (lines-room S _ _ (x .g .now) (x .h .now) _ _ _ (s .pre) (s .pre .fits .1) (λ j k m q. omega (arith, lines-inside (dim S) (few S (s .pre .setup)) j k m q)))
 
 write-one-requires-2 : tie.Need-write-one-requires-2
 write-one-requires-2 c κs =
     let s = c .before .before .before .before .before .before .before .before .before .before in
     let x = s .args in
-    rw (c .before .before .before .before .before .dim .ensures .0) (room-g (setupOf (x .s) (x .matrix .now)) _ _ (x .g .now) (x .h .now) (s .pre))
+    let S = setupOf (x .s) (x .matrix .now) in
+    rw (c .before .before .before .before .before .dim .ensures .0)
+    (lines-room S _ _ (x .g .now) (x .h .now) _ _ _ (s .pre) (s .pre .fits .0) (λ j k m q. omega (arith, lines-inside (dim S) (few S (s .pre .setup)) j k m q)))
 
 same-length : tie.Need-same-length
 same-length c = search needs
