@@ -4,13 +4,11 @@
 -- RowRoom: row k of φ, ℓ entries of d lines of F and row k of F_φ lie in their lists
 -- MappedRoom: φ, the lent random entries and the arrays for F and F_φ are as long as F_φ needs
 -- HolderRoom: the setup is in order, the array is whole, i is one of the holders, and g and h have d entries each
--- mappedLent: scheme's dealMappedLent, by the lengths of the four buffers
 use Prim.Native.Nat.{ℕ, _+_, _-_, _*_, _<_, _≤_}
 use mathlib.Core.Path.{_≡_}
-use mathlib.Core.List.{List, [], _∷_, _++_}
+use mathlib.Core.List.{List, []}
 use lib.ListN.{length}
 use Rattle.scheme.specs.Setup.{Setup, dim, IsSetup}
-use Rattle.scheme.specs.Calls.{Lent, elements, room, dealLent}
 
 abbrev pub sized : ℕ → ℕ → ℕ → Setup
 sized p l e = record { p = p; l = l; e = e; n = 0; M = [] }
@@ -40,7 +38,3 @@ pub record HolderRoom (S : Setup) (F : List ℕ) (i : ℕ) (g h : List ℕ) : Ty
   pub square : length F ≡ 256
   pub one : i < S .n
   pub fits : (length g ≡ dim S) × (length h ≡ dim S)
-
-abbrev pub mappedLent : Setup → (secrets random phi random2 : List ℕ) → (k g h g2 h2 : ℕ) → List Lent
-mappedLent S secrets random phi random2 k g h g2 h2 =
-    dealLent S secrets random ++ elements phi (S .l * S .l) ∷ elements random2 (S .e * dim S) ∷ room g k ∷ room h k ∷ room g2 k ∷ room h2 k ∷ []

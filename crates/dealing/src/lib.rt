@@ -11,9 +11,9 @@ ghost use Rattle.field.specs.Dot.{along};
 ghost use Rattle.scheme.specs.Setup.{setupOf};
 ghost use Rattle.scheme.specs.Answers.{paperWritten};
 ghost use Rattle.scheme.specs.Dealing.{dealtEntry, mappedEntry, partG, partH};
-ghost use Rattle.scheme.specs.Calls.{limits, sizes, inField, table, room, dealLent, dealRules, dealCall, dealLeftG, dealLeftH, dealAllRules, dealAllCall, dealAllLeftG, dealAllLeftH, buffers, dealMappedCall, dealMappedLeft, dealMappedAllCall, dealMappedAllLeft};
+ghost use Rattle.scheme.specs.Calls.{limits, sizes, inField, table, room, dealLent, dealRules, dealCall, dealLeftG, dealLeftH, dealAllRules, dealAllCall, dealAllLeftG, dealAllLeftH, buffers, mappedLent, dealMappedCall, dealMappedLeft, dealMappedAllCall, dealMappedAllLeft};
 ghost use Rattle.parts.specs.Inner.{lineEntry};
-ghost use Rattle.dealing.specs.Inner.{sized, DealtRoom, RowRoom, MappedRoom, HolderRoom, mappedLent};
+ghost use Rattle.dealing.specs.Inner.{sized, DealtRoom, RowRoom, MappedRoom, HolderRoom};
 use scheme::Params;
 use scheme::Written;
 

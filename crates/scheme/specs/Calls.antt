@@ -121,10 +121,14 @@ pub record Buffers : Type 0 where
 abbrev pub buffers : (g h g2 h2 : List ℕ) → Buffers
 buffers g h g2 h2 = record { g = g; h = h; g2 = g2; h2 = h2 }
 
+-- by the entries that the buffers have, each of which needs k
+abbrev pub mappedLent : Setup → (secrets random phi random2 : List ℕ) → (k g h g2 h2 : ℕ) → List Lent
+mappedLent S secrets random phi random2 k g h g2 h2 =
+    dealLent S secrets random ++ elements phi (S .l * S .l) ∷ elements random2 (S .e * dim S) ∷ room g k ∷ room h k ∷ room g2 k ∷ room h2 k ∷ []
+
 abbrev pub dealMappedLent : Setup → (secrets random phi random2 : List ℕ) → (k : ℕ) → Buffers → List Lent
 dealMappedLent S secrets random phi random2 k B =
-    dealLent S secrets random ++ elements phi (S .l * S .l) ∷ elements random2 (S .e * dim S)
-    ∷ room (length (B .g)) k ∷ room (length (B .h)) k ∷ room (length (B .g2)) k ∷ room (length (B .h2)) k ∷ []
+    mappedLent S secrets random phi random2 k (length (B .g)) (length (B .h)) (length (B .g2)) (length (B .h2))
 
 abbrev pub secondDealt : Setup → (secrets random phi random2 : List ℕ) → List ℕ
 secondDealt S secrets random phi random2 = dealtMapped S (dealt S secrets random) phi random2
