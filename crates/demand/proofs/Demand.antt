@@ -32,7 +32,7 @@ use Rattle.scheme.specs.Dealing.{place, dealtEntry, dealt, partG, partH, pairVa
 use Rattle.scheme.specs.Sets.{holds, members, rowAt, hasRow, determines}
 use Rattle.scheme.specs.Opening.{gives, opening, openedBy, combine}
 use Rattle.scheme.specs.Calls.{pairValueCall, judgeCall, judgeRules, outcomeCall, outcomeRules, determinesCall, openRules, openCall, openLeft, openAnswer, combineRules, combineCall, pairValueRules, dealRules}
-use Rattle.demand.specs.Demand.{Dealing, Member, Keeps, Done, Terms, InLimits, constants, sharesOver, Present, Handed, handedIn, Array, column, IsArray, AgreesAt, Agrees, ExactlyOne, secretsOver, Opens, Refused, by-four, by-seven, Found, Honest, arrayDealt, HonestFound, FamilyFound, Demand3}
+use Rattle.demand.specs.Demand.{Dealing, Member, Keeps, Done, Terms, InLimits, oneColumn, constants, sharesOver, Present, Handed, handedIn, Array, column, IsArray, AgreesAt, Agrees, ExactlyOne, secretsOver, Opens, Refused, by-four, by-seven, Found, Honest, arrayDealt, HonestFound, FamilyFound, Demand3}
 use Rattle.base.proofs.Rules.{not-refused}
 use Rattle.scheme.proofs.Calls.{limits-prime, limits-pos, SetOk, determines-ok, JudgeOk, judge-accepts, outcome-ok, outcome-accepts, open-by-shares, combine-accepts, DealOk, deal-ok, below-vec}
 use Rattle.scheme.proofs.Verdicts.{accept-means, accept-when, kept-means, kept-when}
@@ -374,7 +374,7 @@ module _ (S : Setup) (group : ℕ) {I : Type 0} (D : I → Dealing) (done : Done
             record { answer = r .0; buffer = r .1 ∙ opened-right v (w .0) (w .1) }
 
   one-column′ : (t : I) (b : ℕ) → b < S .l
-      → secretsOver S arrayOf (record { count = 1; constant = λ _. 1; dealing = λ _. t; column = λ _. b }) ≡ column (arrayOf t) b
+      → secretsOver S arrayOf (oneColumn t b) ≡ column (arrayOf t) b
   one-column′ t b h =
       sym (tab-is (S .l) _ 0 (column (arrayOf t) b) (array-is t .each b h .size)
       (λ k l. sym (combine-one (S .p) (at (column (arrayOf t) b) k) (array-is t .each b h .small k l))))
@@ -602,7 +602,7 @@ module _ (S : Setup) (secrets random : List ℕ) (D : Dealing) (hon : Honest S s
       found-there = found′ S s all (done′ s e)
 
       ts : Terms (Unit {0})
-      ts = record { count = 1; constant = λ _. 1; dealing = λ _. tt; column = λ _. b }
+      ts = oneColumn tt b
 
       handed : List ℕ
       handed = tab (length (members (S .n) (holds s))) (λ a. at (D .shares (at (members (S .n) (holds s)) a)) b)

@@ -164,7 +164,7 @@ pub record Found (S : Setup) (group : ℕ) {I : Type 0} (D : I → Dealing) : Ty
       → ((i : ℕ) → Member S openers i → Member S group i)
       → Opens S openers handed out (secretsOver S array ts)
   pub one-column : (t : I) (b : ℕ) → b < S .l
-      → secretsOver S array (record { count = 1; constant = λ _. 1; dealing = λ _. t; column = λ _. b }) ≡ column (array t) b
+      → secretsOver S array (oneColumn t b) ≡ column (array t) b
   pub no-columns : (ts : Terms I) → ts .count ≡ 0 → secretsOver S array ts ≡ replicate (S .l) 0
 
 -- WHERE ALL FOLLOW THE RULES
