@@ -1,4 +1,4 @@
-/* Times dealing and the calls on sets before and after a change, in turns; bench/before builds and runs it. */
+/* Times dealing, judging, combinations and the calls on sets before and after a change, in turns; bench/before builds and runs it. */
 #define _GNU_SOURCE
 #include <alloca.h>
 #include <stdint.h>
@@ -20,16 +20,32 @@ SHIFTED(SHIFT);
 __typeof__(mavdrusek_deal) before_mavdrusek_deal;
 __typeof__(mavdrusek_deal_all) before_mavdrusek_deal_all;
 __typeof__(mavdrusek_deal_key) before_mavdrusek_deal_key;
+__typeof__(mavdrusek_judge) before_mavdrusek_judge;
 __typeof__(mavdrusek_determines) before_mavdrusek_determines;
 __typeof__(mavdrusek_private) before_mavdrusek_private;
-__typeof__(mavdrusek_open) before_mavdrusek_open;
 __typeof__(mavdrusek_judge_set) before_mavdrusek_judge_set;
+/* Where it is from before A8 three of them take no rounds. */
+#ifdef WITHOUT_ROUNDS
+uint16_t before_mavdrusek_open(uint16_t p, uint16_t l, uint16_t e, uint16_t n, const uint16_t *matrix, size_t matrix_len, uint32_t set,
+                               const uint16_t *shares, size_t shares_len, uint16_t *secrets, size_t secrets_len, uint16_t *position);
+uint16_t before_mavdrusek_open_key(uint32_t set, const uint16_t *shares, size_t shares_len, uint8_t *key, size_t key_len, uint16_t *position);
+uint16_t before_mavdrusek_combine(uint16_t p, const uint16_t *constants, size_t constants_len, const uint16_t *shares, size_t shares_len,
+                                  uint16_t *value);
+#define BEFORE_ROUNDS(rounds, count)
+#define BEFORE_ROUND(place)
+#else
+__typeof__(mavdrusek_open) before_mavdrusek_open;
+__typeof__(mavdrusek_open_key) before_mavdrusek_open_key;
+__typeof__(mavdrusek_combine) before_mavdrusek_combine;
+#define BEFORE_ROUNDS(rounds, count) rounds, count,
+#define BEFORE_ROUND(place) , place
+#endif
 static __typeof__(mavdrusek_deal) *const deal[] = {before_mavdrusek_deal, mavdrusek_deal};
 static __typeof__(mavdrusek_deal_all) *const deal_all[] = {before_mavdrusek_deal_all, mavdrusek_deal_all};
 static __typeof__(mavdrusek_deal_key) *const deal_key[] = {before_mavdrusek_deal_key, mavdrusek_deal_key};
 static __typeof__(mavdrusek_determines) *const determines[] = {before_mavdrusek_determines, mavdrusek_determines};
 static __typeof__(mavdrusek_private) *const private[] = {before_mavdrusek_private, mavdrusek_private};
-static __typeof__(mavdrusek_open) *const open_set[] = {before_mavdrusek_open, mavdrusek_open};
+static __typeof__(mavdrusek_judge) *const judge_values[] = {before_mavdrusek_judge, mavdrusek_judge};
 static __typeof__(mavdrusek_judge_set) *const judge_set[] = {before_mavdrusek_judge_set, mavdrusek_judge_set};
 
 static uint16_t p, l, e, n, d;
@@ -37,7 +53,9 @@ static uint16_t matrix[TURN][512], secrets[TURN][64], entries[TURN][256], over[T
 static uint16_t (*lent)[256] = entries;
 static uint8_t keys[TURN][16];
 static uint32_t sets[TURN];
-static uint16_t members, shares[TURN][32];
+static uint16_t members, shares[TURN][32], rounds[TURN][64], values[TURN][32];
+/* A key's shares, by a set of the board's holders, in the order of its columns; and a combination's constants and shares. */
+static uint16_t key_shares[TURN][64], constants[TURN][64], columns[TURN][64], terms;
 
 static uint16_t one(int which, int t)
 {
@@ -75,8 +93,32 @@ static uint16_t is_private(int which, int t)
 /* By too few members it is refused. */
 static uint16_t opening(int which, int t)
 {
-    hs[which][1] = open_set[which](p, l, e, n, matrix[t], (size_t)n * d, sets[t], shares[t], members, gs[which], l, hs[which]);
+    hs[which][1] = which ? mavdrusek_open(p, l, e, n, matrix[t], (size_t)n * d, sets[t], shares[t], members, rounds[t], members, gs[1], l, hs[1])
+                         : before_mavdrusek_open(p, l, e, n, matrix[t], (size_t)n * d, sets[t], shares[t], members, BEFORE_ROUNDS(rounds[t], members)
+                                                 gs[0], l, hs[0]);
     return 0;
+}
+
+/* What it writes are 16 bytes of gs. */
+static uint16_t opening_key(int which, int t)
+{
+    size_t count = (size_t)4 * members;
+    return which ? mavdrusek_open_key(sets[t], key_shares[t], count, rounds[t], count, (uint8_t *)gs[1], 16, hs[1])
+                 : before_mavdrusek_open_key(sets[t], key_shares[t], count, BEFORE_ROUNDS(rounds[t], count) (uint8_t *)gs[0], 16, hs[0]);
+}
+
+/* The round that it gives is looked at only where both give one. */
+static uint16_t combining(int which, int t)
+{
+    static uint16_t round;
+    return which ? mavdrusek_combine(p, constants[t], terms, columns[t], terms, rounds[t], terms, gs[1], &round)
+                 : before_mavdrusek_combine(p, constants[t], terms, columns[t], terms, BEFORE_ROUNDS(rounds[t], terms) gs[0] BEFORE_ROUND(&round));
+}
+
+/* On values that are those of h, and on such as differ at some holder. */
+static uint16_t judging(int which, int t)
+{
+    return judge_values[which](p, l, e, n, matrix[t], (size_t)n * d, entries[t], d, values[t], n, hs[which], hs[which] + 1);
 }
 
 static double now(void)
@@ -154,6 +196,53 @@ static void setup(uint16_t a, uint16_t b, uint16_t c, uint16_t holders)
         over[t][d * d - l * l - 1] = p;
         for (int k = 0; k < 16; k++)
             keys[t][k] = (uint8_t)rand();
+        for (int k = 0; k < 64; k++)
+            rounds[t][k] = (uint16_t)(4095 * t);
+        draw(constants[t], 64);
+        draw(columns[t], 64);
+        /* what holder i is due where h is the first d random entries; in every fourth the value of one holder differs */
+        for (int i = 0; i < n; i++) {
+            uint64_t sum = t % 4 == 3 && i == t % n;
+            for (int c = 0; c < d; c++)
+                sum += (uint64_t)matrix[t][i * d + c] * entries[t][c];
+            values[t][i] = (uint16_t)(sum % p);
+        }
+    }
+}
+
+/* A key opened by so many of the board's holders. */
+static void on_keys(uint16_t size)
+{
+    members = size;
+    for (int t = 0; t < TURN; t++) {
+        sets[t] = 0;
+        for (int chosen = 0; chosen < size;) {
+            uint32_t bit = (uint32_t)1 << rand() % 16;
+            chosen += !(sets[t] & bit);
+            sets[t] |= bit;
+        }
+        if (mavdrusek_deal_key(keys[t], 16, entries[t], 33, gs[0], 112, hs[0], 112)) {
+            fprintf(stderr, "a key is not dealt\n");
+            exit(1);
+        }
+        for (int b = 0, k = 0; b < 4; b++)
+            for (int i = 0; i < 16; i++)
+                if (sets[t] >> i & 1)
+                    key_shares[t][k++] = gs[0][7 * i + b];
+    }
+    char name[32];
+    snprintf(name, sizeof name, "open_key %d", size);
+    line(name, opening_key);
+}
+
+static void combinations(void)
+{
+    static const uint16_t counts[] = {1, 4, 16, 64};
+    for (size_t k = 0; k < sizeof counts / sizeof *counts; k++) {
+        char name[32];
+        terms = counts[k];
+        snprintf(name, sizeof name, "combine %d", terms);
+        line(name, combining);
     }
 }
 
@@ -198,6 +287,8 @@ int main(void)
         line("deal", one);
         line("deal_all", all);
         line("refused", none);
+        line("judge", judging);
+        combinations();
         uint16_t sizes[] = {1, e, d < n ? d : n, n};
         for (int at = 0; at < 4; at++)
             if (at == 0 || sizes[at] > sizes[at - 1])
@@ -213,5 +304,8 @@ int main(void)
     }
     setup(257, 4, 3, 16);
     line("deal_key", key);
+    on_keys(7);
+    on_keys(8);
+    on_keys(16);
     return 0;
 }

@@ -36,8 +36,10 @@ fn main() {
             let w = World::new(p, l, e, n);
             calls::calls(&mut t, &w);
             calls::mapped(&mut t, &w);
+            calls::zeros(&mut t, &w);
             records::records(&mut t, &w);
             records::mapped(&mut t, &w);
+            records::zeros(&mut t, &w);
             records::files(&mut t, &w);
         }
         println!("board keys (p 257, l 4, e 3, n 16)");
@@ -48,6 +50,7 @@ fn main() {
     }
     if wanted("collection") {
         collection::collection();
+        collection::refreshed();
     }
     if wanted("growth") {
         collection::growth();

@@ -146,17 +146,26 @@ pub fn calls(t: &mut Table, w: &World) {
     for terms in [0, 2, 64] {
         let mut r = Random(terms as u64);
         let drawn: Vec<[Vec<u16>; 2]> = (0..TURN).map(|_| [r.elements(s.p, terms), r.elements(s.p, terms)]).collect();
+        let (rounds, mut share) = (alike(terms), [0; 2]);
         t.line(
             &name(&format!("combine {terms}")),
             |k, look| {
-                let r = ours::combine(s.p, &drawn[k][0], &drawn[k][1], &mut value);
-                give(look, || digest(r, &[value]), r | value)
+                let r = ours::combine(s.p, &drawn[k][0], &drawn[k][1], &rounds[k], &mut share);
+                give(look, || digest(r, &share), r | share[0])
             },
             |k, look| {
-                let r = reference::combine(s.p, &drawn[k][0], &drawn[k][1]);
+                let r = reference::combine(s.p, &drawn[k][0], &drawn[k][1], &rounds[k]);
                 give(look, || of(&r, &[]), r.values[0])
             },
         );
+        if terms == 64 {
+            let rounds = apart(terms);
+            t.line(
+                &name("combine 64, refused 19"),
+                |k, _| ours::combine(s.p, &drawn[k][0], &drawn[k][1], &rounds[k], &mut share) as u64,
+                |k, _| reference::combine(s.p, &drawn[k][0], &drawn[k][1], &rounds[k]).number as u64,
+            );
+        }
     }
 
     let few = (s.e as usize).min(n);
@@ -207,15 +216,22 @@ pub fn calls(t: &mut Table, w: &World) {
             x[at] = (x[at] + 1) % s.p;
         }
         let mut position = 0;
-        for (case, handed) in [("", &shares), (", one share changed", &changed)] {
+        let count = shares[0].len();
+        for (case, handed, rounds) in
+            [("", &shares, alike(count)), (", one share changed", &changed, alike(count)), (", refused 19", &shares, apart(count))]
+        {
+            // the round of one share agrees with itself
+            if count == 1 && case == ", refused 19" {
+                continue;
+            }
             t.line(
                 &name(&format!("open, {who}{case}")),
                 |k, look| {
-                    let r = ours::open(s, w.m(k), sets[k], &handed[k], &mut a[..l], &mut position);
+                    let r = ours::open(s, w.m(k), sets[k], &handed[k], &rounds[k], &mut a[..l], &mut position);
                     give(look, || digest(r, if r == 0 { &a[..l] } else { &[] }), r)
                 },
                 |k, look| {
-                    let r = reference::open(s, w.m(k), sets[k], &handed[k], &mut b[..l]);
+                    let r = reference::open(s, w.m(k), sets[k], &handed[k], &rounds[k], &mut b[..l]);
                     give(look, || digest(r.number, if r.number == 0 { &b[..l] } else { &[] }), r.number)
                 },
             );
@@ -306,6 +322,95 @@ pub fn mapped(t: &mut Table, w: &World) {
     }
 }
 
+/// Zero dealings, and refreshes.
+pub fn zeros(t: &mut Table, w: &World) {
+    let s = w.s;
+    let (l, d, e, n) = (s.l as usize, s.d(), s.e as usize, s.n as usize);
+    let name = |call: &str| format!("{call} p {}", s.p);
+    let holder = |k: usize| k * 7 % n;
+    let (mut gs, mut hs) = (vec![0u16; n * d], vec![0u16; n * e]);
+    let (mut other_gs, mut other_hs) = (vec![0u16; n * d], vec![0u16; n * e]);
+    t.line(
+        &name("deal_zero"),
+        |k, look| {
+            let r = ours::deal_zero(s, w.m(k), &w.deals[k].zero.random, holder(k) as u16, &mut gs[..d], &mut hs[..e]);
+            give(look, || digest(r, &[&gs[..d], &hs[..e]].concat()), r)
+        },
+        |k, look| {
+            let r = reference::deal_zero(s, w.m(k), &w.deals[k].zero.random, holder(k) as u16, &mut other_gs[..d], &mut other_hs[..e]);
+            give(look, || of(&r, &[&other_gs[..d], &other_hs[..e]].concat()), r.number)
+        },
+    );
+    t.line(
+        &name("deal_zero_all"),
+        |k, look| {
+            let r = ours::deal_zero_all(s, w.m(k), &w.deals[k].zero.random, &mut gs, &mut hs);
+            give(look, || digest(r, &[&gs[..], &hs].concat()), r)
+        },
+        |k, look| {
+            let r = reference::deal_zero_all(s, w.m(k), &w.deals[k].zero.random, &mut other_gs, &mut other_hs);
+            give(look, || of(&r, &[&other_gs[..], &other_hs].concat()), r.number)
+        },
+    );
+    let mut too_high: Vec<Vec<u16>> = w.deals.iter().map(|x| x.zero.random.clone()).collect();
+    too_high.iter_mut().for_each(|random| *random.last_mut().unwrap() = s.p);
+    t.line(
+        &name("deal_zero_all, refused 4"),
+        |k, _| ours::deal_zero_all(s, w.m(k), &too_high[k], &mut gs, &mut hs) as u64,
+        |k, _| reference::deal_zero_all(s, w.m(k), &too_high[k], &mut other_gs, &mut other_hs).number as u64,
+    );
+
+    let mut wrong: Vec<Vec<u16>> = (0..TURN).map(|k| w.zero(k, holder(k))[2].to_vec()).collect();
+    for (k, values) in wrong.iter_mut().enumerate() {
+        values[k * 5 % n] = (values[k * 5 % n] + 1) % s.p;
+    }
+    for (call, rejects) in [("judge_zero, accept", false), ("judge_zero, reject", true)] {
+        let received = |k: usize| if rejects { &wrong[k][..] } else { w.zero(k, holder(k))[2] };
+        let (mut verdict, mut named) = (0, 0);
+        t.line(
+            &name(call),
+            |k, look| {
+                let r = ours::judge_zero(s, w.m(k), w.zero(k, holder(k))[1], received(k), &mut verdict, &mut named);
+                let said = if verdict == 1 { &[1][..] } else { &[0, named][..] };
+                give(look, || digest(r, said), r | verdict)
+            },
+            |k, look| {
+                let r = reference::judge_zero(s, w.m(k), w.zero(k, holder(k))[1], received(k));
+                give(look, || of(&r, &[]), r.values[0])
+            },
+        );
+    }
+
+    let shares = |k: usize| [w.g(k, holder(k))[k % l], w.zero(k, holder(k))[0][k % l]];
+    let mut fresh = [0; 2];
+    // By a pointer, so that the reference is called as ours is and not copied into the loop.
+    let theirs: fn(u16, u16, u16, u16) -> Answer = black_box(reference::refresh);
+    t.line(
+        &name("refresh"),
+        |k, look| {
+            let [share, zero] = shares(k);
+            let r = ours::refresh(s.p, share, 4095 * k as u16, zero, &mut fresh);
+            give(look, || digest(r, &fresh), r | fresh[0])
+        },
+        |k, look| {
+            let [share, zero] = shares(k);
+            let r = theirs(s.p, share, 4095 * k as u16, zero);
+            give(look, || of(&r, &[]), r.values[0])
+        },
+    );
+    t.line(
+        &name("refresh, refused 18"),
+        |k, _| {
+            let [share, zero] = shares(k);
+            ours::refresh(s.p, share, 65535, zero, &mut fresh) as u64
+        },
+        |k, _| {
+            let [share, zero] = shares(k);
+            theirs(s.p, share, 65535, zero).number as u64
+        },
+    );
+}
+
 /// Board keys. Their setup is fixed, so that the reference makes its matrix in each call; ours has it built in.
 pub fn keys(t: &mut Table) {
     let w = &board();
@@ -346,25 +451,27 @@ pub fn keys(t: &mut Table) {
             x[at] = (x[at] + 1) % 257;
         }
         let (mut key, mut other, mut position) = ([0; 16], [0; 16], 0);
-        let mut line = |case: &str, handed: &[Vec<u16>]| {
+        let mut line = |case: &str, handed: &[Vec<u16>], rounds: &[Vec<u16>]| {
             t.line(
                 &format!("open_key, {count} members{case}"),
                 |k, look| {
-                    let r = ours::open_key(sets[k], &handed[k], &mut key, &mut position);
+                    let r = ours::open_key(sets[k], &handed[k], &rounds[k], &mut key, &mut position);
                     give(look, || digest(r, &if r == 0 { wide(&key) } else { vec![] }), r)
                 },
                 |k, look| {
-                    let r = reference::open_key(sets[k], &handed[k], &mut other);
+                    let r = reference::open_key(sets[k], &handed[k], &rounds[k], &mut other);
                     give(look, || digest(r.number, &if r.number == 0 { wide(&other) } else { vec![] }), r.number)
                 },
             );
         };
-        line("", &shares);
+        let rounds = alike(4 * count);
+        line("", &shares, &rounds);
         if count > 7 {
-            line(", one share changed", &changed);
+            line(", one share changed", &changed, &rounds);
         }
         if count > 6 {
-            line(", a 256", &with_256);
+            line(", a 256", &with_256, &rounds);
         }
+        line(", refused 19", &shares, &apart(4 * count));
     }
 }

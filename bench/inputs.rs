@@ -44,6 +44,7 @@ pub struct Deal {
     /// The values that each holder receives, by receiver and then by sender.
     pub values: Vec<u16>,
     pub twin: Twin,
+    pub zero: Zero,
 }
 
 /// A second dealing, tied to the first by a map.
@@ -55,8 +56,16 @@ pub struct Twin {
     pub values: Vec<u16>,
 }
 
+/// A zero dealing; a holder's part of `hs` has e entries.
+pub struct Zero {
+    pub random: Vec<u16>,
+    pub gs: Vec<u16>,
+    pub hs: Vec<u16>,
+    pub values: Vec<u16>,
+}
+
 impl Deal {
-    fn new(s: Params, m: Vec<u16>, r: &mut Random, maps: &mut Random) -> Deal {
+    fn new(s: Params, m: Vec<u16>, r: &mut Random, maps: &mut Random, zeros: &mut Random) -> Deal {
         let (l, d, n) = (s.l as usize, s.d(), s.n as usize);
         let (secrets, random) = (r.elements(s.p, l * l), r.elements(s.p, d * d - l * l));
         let (mut gs, mut hs) = (vec![0; n * d], vec![0; n * d]);
@@ -68,7 +77,11 @@ impl Deal {
         let from = Mapped { secrets: &secrets, random: &random, phi: &phi, random2: &random2 };
         reference::deal_mapped_all(s, &m, from, [&mut gs.clone(), &mut hs.clone(), &mut gs2, &mut hs2]);
         let twin = Twin { phi, random: random2, values: received(&gs2), gs: gs2, hs: hs2 };
-        Deal { values: received(&gs), m, secrets, random, gs, hs, twin }
+        let random0 = zeros.elements(s.p, s.e as usize * d);
+        let (mut gs0, mut hs0) = (vec![0; n * d], vec![0; n * s.e as usize]);
+        reference::deal_zero_all(s, &m, &random0, &mut gs0, &mut hs0);
+        let zero = Zero { random: random0, values: received(&gs0), gs: gs0, hs: hs0 };
+        Deal { values: received(&gs), m, secrets, random, gs, hs, twin, zero }
     }
 
     /// What both dealings are made from.
@@ -90,7 +103,7 @@ impl World {
 
     pub fn with(p: u16, l: u16, e: u16, n: u16, turned: bool) -> World {
         let s = Params { p, l, e, n };
-        let (mut r, mut maps) = (Random(p as u64), Random(!p as u64));
+        let (mut r, mut maps, mut zeros) = (Random(p as u64), Random(!p as u64), Random(p as u64 + 65536));
         let mut m = vec![0; s.entries()];
         // Where the field has too few points, any matrix by which all holders determine the secrets.
         if reference::points(s, &mut m).number != 0 {
@@ -104,7 +117,7 @@ impl World {
                 if turned {
                     r.shuffle(&mut rows);
                 }
-                Deal::new(s, rows.concat(), &mut r, &mut maps)
+                Deal::new(s, rows.concat(), &mut r, &mut maps, &mut zeros)
             })
             .collect();
         World { s, deals }
@@ -131,6 +144,11 @@ impl World {
     pub fn second_part(&self, k: usize, i: usize) -> [&[u16]; 3] {
         let (x, d) = (&self.deals[k].twin, self.s.d());
         [&x.gs[i * d..][..d], &x.hs[i * d..][..d], &x.phi]
+    }
+    /// Holder i's part of the zero dealing, and the values that it receives in it.
+    pub fn zero(&self, k: usize, i: usize) -> [&[u16]; 3] {
+        let (x, d, e, n) = (&self.deals[k].zero, self.s.d(), self.s.e as usize, self.s.n as usize);
+        [&x.gs[i * d..][..d], &x.hs[i * e..][..e], &x.values[i * n..][..n]]
     }
     /// Shares of column b of dealing k, by rising holder.
     pub fn shares(&self, k: usize, set: u32, b: usize) -> Vec<u16> {
@@ -181,25 +199,38 @@ pub fn board() -> World {
     w
 }
 
-/// A holder's file of an accepted dealing, or of two that are tied by a map.
-pub fn file(w: &World, k: usize, holder: u16, mapped: bool) -> Vec<u8> {
-    let s = w.s;
-    let mut bytes = vec![0; 10 + 2 * s.entries() + 6 + 4 * s.d()];
-    let (first, second) = bytes.split_at_mut(10 + 2 * s.entries());
-    reference::write_setup(s, w.m(k), first);
-    reference::write_dealing(s, 7, holder, w.g(k, holder as usize), w.h(k, holder as usize), second);
-    if mapped {
+/// What a holder's file is of: a dealing, two that are tied by a map, or a zero dealing.
+#[derive(Clone, Copy, PartialEq)]
+pub enum Kind {
+    Plain,
+    Mapped,
+    Zero,
+}
+
+/// A holder's file of an accepted dealing.
+pub fn file(w: &World, k: usize, holder: u16, kind: Kind) -> Vec<u8> {
+    let (s, i) = (w.s, holder as usize);
+    let mut bytes = vec![0; 10 + 2 * s.entries()];
+    reference::write_setup(s, w.m(k), &mut bytes);
+    let [g, h, values] = if kind == Kind::Zero { w.zero(k, i) } else { [w.g(k, i), w.h(k, i), w.values(k, i)] };
+    let mut record = vec![0; 6 + 2 * g.len() + 2 * h.len()];
+    match kind {
+        Kind::Zero => reference::write_zero_dealing(s, 7, holder, g, h, &mut record),
+        _ => reference::write_dealing(s, 7, holder, g, h, &mut record),
+    };
+    bytes.extend(record);
+    if kind == Kind::Mapped {
         let mut record = vec![0; 6 + 4 * s.d() + 2 * s.l as usize * s.l as usize];
-        reference::write_mapped_dealing(s, 7, holder, w.second_part(k, holder as usize), &mut record);
+        reference::write_mapped_dealing(s, 7, holder, w.second_part(k, i), &mut record);
         bytes.extend(record);
     }
-    for (j, &value) in (0..).zip(w.values(k, holder as usize)) {
+    for (j, &value) in (0..).zip(values) {
         let mut record = [0; 10];
         reference::write_pair_value(s, 7, j, holder, value, &mut record);
         bytes.extend(record);
     }
-    if mapped {
-        for (j, &value) in (0..).zip(w.second(k, holder as usize).values) {
+    if kind == Kind::Mapped {
+        for (j, &value) in (0..).zip(w.second(k, i).values) {
             let mut record = [0; 10];
             reference::write_mapped_pair_value(s, 7, j, holder, value, &mut record);
             bytes.extend(record);
@@ -211,4 +242,16 @@ pub fn file(w: &World, k: usize, holder: u16, mapped: bool) -> Vec<u8> {
         bytes.extend(record);
     }
     bytes
+}
+
+/// So many rounds for each input: all of one round, the inputs at different ones.
+pub fn alike(count: usize) -> Vec<Vec<u16>> {
+    (0..TURN).map(|k| vec![4095 * k as u16; count]).collect()
+}
+
+/// The same, but that the last is another.
+pub fn apart(count: usize) -> Vec<Vec<u16>> {
+    let mut all = alike(count);
+    all.iter_mut().for_each(|x| *x.last_mut().unwrap() += 1);
+    all
 }

@@ -80,12 +80,13 @@ pub fn peers(targets: &mut Vec<Target>) {
             .collect();
 
         let shares: Vec<Vec<u16>> = (0..TURN).map(|k| w.key_shares(k, sets[k])).collect();
+        let rounds = vec![3; 4 * count as usize];
         let (mut back, mut key) = ([0u8; 16], [0; 16]);
-        let open_key = |k: usize, key: &mut [u8; 16]| ours::open_key(sets[k], &shares[k], key, &mut 0);
+        let open_key = |k: usize, key: &mut [u8; 16]| ours::open_key(sets[k], &shares[k], &rounds, key, &mut 0);
         let open = |k: usize, key: &mut [u16; 16]| {
             let mut refused = 0;
             for (column, secrets) in columns[k].iter().zip(key.chunks_mut(4)) {
-                refused += ours::open(s, m, sets[k], column, secrets, &mut 0);
+                refused += ours::open(s, m, sets[k], column, &rounds[..column.len()], secrets, &mut 0);
             }
             refused
         };

@@ -142,24 +142,25 @@ pub fn records(t: &mut Table, w: &World) {
         },
     );
 
-    let share = |k: usize| w.g(k, holder(k) as usize)[k % l];
+    let share = |k: usize| [dealing(k), holder(k), (k % l) as u16, w.g(k, holder(k) as usize)[k % l], 4096 * k as u16];
     t.line(
         &name("write_share"),
         |k, look| {
-            let r = ours::write_share(s, dealing(k), holder(k), (k % l) as u16, share(k), &mut x[..10]);
-            give(look, || digest(r, &wide(&x[..10])), r)
+            let r = ours::write_share(s, share(k), &mut x[..12]);
+            give(look, || digest(r, &wide(&x[..12])), r)
         },
         |k, look| {
-            let r = reference::write_share(s, dealing(k), holder(k), (k % l) as u16, share(k), &mut y[..10]);
-            give(look, || of(&r, &wide(&y[..10])), r.number)
+            let r = reference::write_share(s, share(k), &mut y[..12]);
+            give(look, || of(&r, &wide(&y[..12])), r.number)
         },
     );
-    let written = made(10, &|k, out| reference::write_share(s, dealing(k), holder(k), (k % l) as u16, share(k), out));
+    let written = made(12, &|k, out| reference::write_share(s, share(k), out));
+    let mut five = [0; 5];
     t.line(
         &name("read_share"),
         |k, look| {
-            let r = ours::read_share(s, &written[k], &mut four);
-            give(look, || digest(r, &four), r)
+            let r = ours::read_share(s, &written[k], &mut five);
+            give(look, || digest(r, &five), r)
         },
         |k, look| {
             let r = reference::read_share(s, &written[k]);
@@ -231,14 +232,56 @@ pub fn mapped(t: &mut Table, w: &World) {
     );
 }
 
-/// Sound files of accepted dealings, without and with a second dealing.
+/// The record of a zero dealing.
+pub fn zeros(t: &mut Table, w: &World) {
+    let s = w.s;
+    let (d, e, n) = (s.d(), s.e as usize, s.n as usize);
+    let name = |call: &str| format!("{call} p {}", s.p);
+    let holder = |k: usize| (k * 7 % n) as u16;
+    let dealing = |k: usize| 1 + 4095 * k as u16;
+    let size = 6 + 2 * d + 2 * e;
+    let (mut x, mut y) = (vec![0u8; size], vec![0u8; size]);
+    let part = |k: usize| w.zero(k, holder(k) as usize);
+    t.line(
+        &name("write_zero_dealing"),
+        |k, look| {
+            let [g, h, _] = part(k);
+            let r = ours::write_zero_dealing(s, dealing(k), holder(k), g, h, &mut x);
+            give(look, || digest(r, &wide(&x)), r)
+        },
+        |k, look| {
+            let [g, h, _] = part(k);
+            let r = reference::write_zero_dealing(s, dealing(k), holder(k), g, h, &mut y);
+            give(look, || of(&r, &wide(&y)), r.number)
+        },
+    );
+    let written = made(size, &|k, out| {
+        let [g, h, _] = part(k);
+        reference::write_zero_dealing(s, dealing(k), holder(k), g, h, out)
+    });
+    let lists = || (vec![0u16; d], vec![0; e]);
+    let ((mut g, mut h), (mut other_g, mut other_h), mut two) = (lists(), lists(), [0; 2]);
+    t.line(
+        &name("read_zero_dealing"),
+        |k, look| {
+            let r = ours::read_zero_dealing(s, &written[k], &mut g, &mut h, &mut two);
+            give(look, || digest(r, &[&two[..], &g, &h].concat()), r)
+        },
+        |k, look| {
+            let r = reference::read_zero_dealing(s, &written[k], &mut other_g, &mut other_h);
+            give(look, || of(&r, &[&other_g[..], &other_h].concat()), r.number)
+        },
+    );
+}
+
+/// Sound files of accepted dealings, without and with a second dealing, and of zero dealings.
 pub fn files(t: &mut Table, w: &World) {
     let (mut out, mut other) = ([0u8; reference::TEXT], [0u8; reference::TEXT]);
     let (mut count, mut byte) = (0, 0);
     let (mut contents, mut others) = ([0u16; reference::CONTENTS], [0u16; reference::CONTENTS]);
-    for (kind, mapped) in [("", false), (", with a map", true)] {
-        let name = |call: &str| format!("{call}{kind} p {}", w.s.p);
-        let files: Vec<Vec<u8>> = (0..TURN).map(|k| file(w, k, k as u16 * 7 % w.s.n, mapped)).collect();
+    for (words, kind) in [("", Kind::Plain), (", with a map", Kind::Mapped), (", of zeros", Kind::Zero)] {
+        let name = |call: &str| format!("{call}{words} p {}", w.s.p);
+        let files: Vec<Vec<u8>> = (0..TURN).map(|k| file(w, k, k as u16 * 7 % w.s.n, kind)).collect();
         t.line(
             &name("read_file"),
             |k, look| {

@@ -12,14 +12,14 @@
 
 #define MOST 512
 
-static uint16_t secret[MOST], matrix[MOST], phi[64], gs[MOST], hs[MOST], gs2[MOST], hs2[MOST], value;
+static uint16_t secret[MOST], matrix[MOST], phi[64], gs[MOST], hs[MOST], gs2[MOST], hs2[MOST], value, at;
 
 static struct { uint16_t p, l, e, n, d; } s;
 
 #define SETUP s.p, s.l, s.e, s.n
 #define ENTRIES ((size_t)s.n * s.d)
 
-/* Each call on the secret entries; matrix, setup, map and holders are public. It must not be refused. */
+/* Each call on the secret entries; matrix, setup, map, holders and rounds are public. It must not be refused. */
 static uint16_t deal(void)
 {
     size_t keys = (size_t)s.l * s.l, random = (size_t)s.d * s.d - keys;
@@ -53,6 +53,20 @@ static uint16_t deal_mapped_all(void)
                                      hs, ENTRIES, gs2, ENTRIES, hs2, ENTRIES);
 }
 
+/* The secret entries are the random ones. */
+static uint16_t deal_zero(void)
+{
+    uint16_t refused = 0;
+    for (uint16_t i = 0; i < s.n; i++)
+        refused |= mavdrusek_deal_zero(SETUP, matrix, ENTRIES, secret, (size_t)s.e * s.d, i, gs, s.d, hs, s.e);
+    return refused;
+}
+
+static uint16_t deal_zero_all(void)
+{
+    return mavdrusek_deal_zero_all(SETUP, matrix, ENTRIES, secret, (size_t)s.e * s.d, gs, ENTRIES, hs, (size_t)s.n * s.e);
+}
+
 /* The random entries first, so that the one of P that draw puts in front is refused; a byte is an entry, or 255 for 256. */
 static uint16_t deal_key(void)
 {
@@ -73,9 +87,22 @@ static uint16_t pair_value(void)
 
 static uint16_t combine(void)
 {
+    static uint16_t rounds[64];
     uint16_t refused = 0;
-    for (size_t terms = 1; terms <= 64; terms++)
-        refused |= mavdrusek_combine(s.p, secret, terms, secret + 64, terms, &value);
+    for (uint16_t terms = 1; terms <= 64; terms++) {
+        for (int k = 0; k < 64; k++)
+            rounds[k] = terms;
+        refused |= mavdrusek_combine(s.p, secret, terms, secret + 64, terms, rounds, terms, &value, &at);
+    }
+    return refused;
+}
+
+/* The secret entries are the old shares, then the zero shares. */
+static uint16_t refresh(void)
+{
+    uint16_t refused = 0;
+    for (uint16_t k = 0; k < 64; k++)
+        refused |= mavdrusek_refresh(s.p, secret[k], k, secret[64 + k], &value, &at);
     return refused;
 }
 
@@ -95,9 +122,9 @@ static uint16_t indexing(void)
 }
 
 static const struct { const char *name; uint16_t (*run)(void); } calls[] = {
-    {"deal", deal},         {"deal_all", deal_all},     {"deal_mapped", deal_mapped}, {"deal_mapped_all", deal_mapped_all},
-    {"deal_key", deal_key}, {"pair_value", pair_value}, {"combine", combine},         {"branching", branching},
-    {"indexing", indexing},
+    {"deal", deal}, {"deal_all", deal_all}, {"deal_mapped", deal_mapped}, {"deal_mapped_all", deal_mapped_all},
+    {"deal_zero", deal_zero}, {"deal_zero_all", deal_zero_all}, {"deal_key", deal_key}, {"pair_value", pair_value},
+    {"combine", combine}, {"refresh", refresh}, {"branching", branching}, {"indexing", indexing},
 };
 
 static void draw(uint16_t p, uint64_t seed)

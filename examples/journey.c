@@ -1,5 +1,6 @@
-/* The journey of one board key: dealt to 16 holders, judged by all of them, kept, combined, opened by seven; then a dealer that lies; then twin boards,
- * whose keys are tied by a public map. Exit status 1 when anything is not as expected. To build and run, in the repository's folder:
+/* The journey of one board key: dealt to 16 holders, judged by all of them, kept, combined, opened by seven, its shares refreshed by a zero dealing and
+ * opened again; then a dealer that lies; then twin boards, whose keys are tied by a public map. Exit status 1 when anything is not as expected. To build
+ * and run, in the repository's folder:
  *
  *   rt staticlib c_api
  *   cc -Wall -Wextra -O2 -Iinclude -o target/journey examples/journey.c target/staticlib/libc_api.a && target/journey
@@ -11,12 +12,16 @@
 #include "mavdrusek.h"
 
 /* The setup of every board key. */
-enum { P = 257, L = 4, E = 3, N = 16, D = L + E, KEY = L * L, DEALING = 1 };
+enum { P = 257, L = 4, E = 3, N = 16, D = L + E, KEY = L * L, DEALING = 1, ZERO_DEALING = 2 };
 #define SETUP P, L, E, N
 
-static uint16_t matrix[N * D], gs[N * D], hs[N * D], shares[N][L];
+static uint16_t matrix[N * D], gs[N * D], hs[N * D];
+/* Every holder's shares and their rounds. The holders of a new dealing agree on its round, here 0. */
+static uint16_t shares[N][L], rounds[N][L];
 /* Of twin boards: the parts and the shares of the second. */
 static uint16_t gs2[N * D], hs2[N * D], shares2[N][L];
+/* Of a zero dealing: the parts, with e entries in a column part, and the shares. */
+static uint16_t zero_gs[N * D], zero_hs[N * E], zeros[N][L];
 
 /* The map of twin boards: position k of the twin's column is row k of it times the column. */
 static const uint16_t phi[KEY] = {1, 2, 0, 0, 0, 1, 3, 0, 0, 0, 1, 4, 5, 0, 0, 1};
@@ -68,69 +73,93 @@ static void judge_all_mapped(uint16_t *verdicts, uint16_t *named)
     }
 }
 
-/* Opens a combination of columns by the holders in a set; its shares by rising holder. */
-static uint16_t open_combination(uint32_t set, const uint16_t *by_holder, uint16_t *secrets, uint16_t *position)
+/* Everyone's verdict on a zero dealing, and whom a reject names. */
+static void judge_all_zero(uint16_t *verdicts, uint16_t *named)
 {
-    uint16_t handed[N];
-    size_t count = 0;
-    for (int i = 0; i < N; i++)
-        if (set >> i & 1)
-            handed[count++] = by_holder[i];
-    return mavdrusek_open(SETUP, matrix, N * D, set, handed, count, secrets, L, position);
+    for (uint16_t i = 0; i < N; i++) {
+        uint16_t values[N];
+        exchange(zero_gs, i, values);
+        expect(mavdrusek_judge_zero(SETUP, matrix, N * D, zero_hs + i * E, E, values, N, &verdicts[i], &named[i]) == 0, "a judgement of zeros");
+    }
 }
 
-/* Opens a key by the holders in a set: their shares of column 0 by rising holder, then those of columns 1, 2 and 3. */
+/* Opens a column or a combination of columns by the holders in a set; its shares by rising holder, with their rounds. */
+static uint16_t open_combination(uint32_t set, const uint16_t *by_holder, const uint16_t *at_round, uint16_t *secrets, uint16_t *position)
+{
+    uint16_t handed[N], handed_rounds[N];
+    size_t count = 0;
+    for (int i = 0; i < N; i++)
+        if (set >> i & 1) {
+            handed[count] = by_holder[i];
+            handed_rounds[count++] = at_round[i];
+        }
+    return mavdrusek_open(SETUP, matrix, N * D, set, handed, count, handed_rounds, count, secrets, L, position);
+}
+
+/* Opens a key by the holders in a set: their shares of column 0 by rising holder, then those of columns 1, 2 and 3, and the rounds in the same order. */
 static uint16_t open_key(uint32_t set, uint8_t *key, uint16_t *position)
 {
-    uint16_t handed[N * L];
+    uint16_t handed[N * L], handed_rounds[N * L];
     size_t count = 0;
     for (int b = 0; b < L; b++)
         for (int i = 0; i < N; i++)
-            if (set >> i & 1)
-                handed[count++] = shares[i][b];
-    return mavdrusek_open_key(set, handed, count, key, KEY, position);
+            if (set >> i & 1) {
+                handed[count] = shares[i][b];
+                handed_rounds[count++] = rounds[i][b];
+            }
+    return mavdrusek_open_key(set, handed, count, handed_rounds, count, key, KEY, position);
 }
 
 /* The records of a holder's file, by their lengths, and the numbers that it is read into. */
-enum { SU = 10 + 2 * N * D, DL = 6 + 4 * D, DF = DL + 2 * KEY, PV = 10, PF = PV, VD = 8, CONTENTS = 27 };
+enum { SU = 10 + 2 * N * D, DL = 6 + 4 * D, DF = DL + 2 * KEY, DZ = 6 + 2 * D + 2 * E, PV = 10, PF = PV, VD = 8, CONTENTS = 27 };
+
+/* What a file is of, as its contents have it: a dealing, twin boards, or a zero dealing. */
+enum kind { PLAIN, TWIN, ZEROS };
 
 /* Writes a holder's file: the setup, its part, the values it received and everyone's verdict; of twin boards also the part of the second with the map, and
  * the values received in it. Gives its length. */
-static size_t write_file(int twin, uint16_t holder, const uint16_t *verdicts, uint8_t *file)
+static size_t write_file(enum kind kind, uint16_t holder, const uint16_t *verdicts, uint8_t *file)
 {
     uint8_t *at = file;
-    uint16_t values[N];
+    uint16_t values[N], number = kind == ZEROS ? ZERO_DEALING : DEALING;
     expect(mavdrusek_write_setup(SETUP, matrix, N * D, at, SU) == 0, "SU");
     at += SU;
-    expect(mavdrusek_write_dealing(SETUP, DEALING, holder, gs + holder * D, D, hs + holder * D, D, at, DL) == 0, "DL");
-    at += DL;
-    if (twin) {
-        expect(mavdrusek_write_mapped_dealing(SETUP, DEALING, holder, gs2 + holder * D, D, hs2 + holder * D, D, phi, KEY, at, DF) == 0, "DF");
+    if (kind == ZEROS) {
+        expect(mavdrusek_write_zero_dealing(SETUP, number, holder, zero_gs + holder * D, D, zero_hs + holder * E, E, at, DZ) == 0, "DZ");
+        at += DZ;
+    } else {
+        expect(mavdrusek_write_dealing(SETUP, number, holder, gs + holder * D, D, hs + holder * D, D, at, DL) == 0, "DL");
+        at += DL;
+    }
+    if (kind == TWIN) {
+        expect(mavdrusek_write_mapped_dealing(SETUP, number, holder, gs2 + holder * D, D, hs2 + holder * D, D, phi, KEY, at, DF) == 0, "DF");
         at += DF;
     }
-    exchange(gs, holder, values);
+    exchange(kind == ZEROS ? zero_gs : gs, holder, values);
     for (uint16_t j = 0; j < N; j++, at += PV)
-        expect(mavdrusek_write_pair_value(SETUP, DEALING, j, holder, values[j], at, PV) == 0, "PV");
-    if (twin) {
+        expect(mavdrusek_write_pair_value(SETUP, number, j, holder, values[j], at, PV) == 0, "PV");
+    if (kind == TWIN) {
         exchange(gs2, holder, values);
         for (uint16_t j = 0; j < N; j++, at += PF)
-            expect(mavdrusek_write_mapped_pair_value(SETUP, DEALING, j, holder, values[j], at, PF) == 0, "PF");
+            expect(mavdrusek_write_mapped_pair_value(SETUP, number, j, holder, values[j], at, PF) == 0, "PF");
     }
     for (uint16_t j = 0; j < N; j++, at += VD)
-        expect(mavdrusek_write_verdict(SETUP, DEALING, j, verdicts[j], at, VD) == 0, "VD");
+        expect(mavdrusek_write_verdict(SETUP, number, j, verdicts[j], at, VD) == 0, "VD");
     return (size_t)(at - file);
 }
 
 /* A holder's file, read back and printed; gives its length. */
-static size_t print_file(int twin, uint16_t holder, const uint16_t *verdicts, uint8_t *file)
+static size_t print_file(enum kind kind, uint16_t holder, const uint16_t *verdicts, uint8_t *file)
 {
     uint8_t out[512];
     uint16_t contents[CONTENTS];
-    size_t length = write_file(twin, holder, verdicts, file), count, byte = 0;
+    size_t length = write_file(kind, holder, verdicts, file), count, byte = 0;
     expect(mavdrusek_read_file(file, length, contents, CONTENTS, &byte) == 0, "the holder's file");
-    expect(contents[0] == P && contents[4] == DEALING && contents[5] == holder && contents[6] == 1 && contents[8] == 1, "accept and kept");
-    expect(memcmp(contents + 10, shares[holder], sizeof shares[holder]) == 0, "the shares kept");
-    expect(contents[18] == twin && (!twin || memcmp(contents + 19, shares2[holder], sizeof shares2[holder]) == 0), "the twin's shares kept");
+    expect(contents[0] == P, "the setup");
+    expect(contents[4] == (kind == ZEROS ? ZERO_DEALING : DEALING) && contents[5] == holder && contents[6] == 1 && contents[8] == 1, "accept and kept");
+    expect(memcmp(contents + 10, kind == ZEROS ? zeros[holder] : shares[holder], sizeof shares[holder]) == 0, "the shares kept");
+    expect(contents[18] == kind, "what the file is of");
+    expect(kind != TWIN || memcmp(contents + 19, shares2[holder], sizeof shares2[holder]) == 0, "the twin's shares kept");
     expect(mavdrusek_holder_file(file, length, out, sizeof out, &count, &byte) == 0, "the file's text");
     expect(strncmp((char *)out, "setup 257 4 3 16\n", 17) == 0, "the text's first line");
     printf("holder %d's file prints\n", holder);
@@ -145,7 +174,7 @@ static void show_file(uint16_t holder, const uint16_t *verdicts)
     uint8_t file[SU + DL + N * PV + N * VD];
     uint16_t contents[CONTENTS];
     size_t byte = 0;
-    expect(print_file(0, holder, verdicts, file) == sizeof file, "the file's length");
+    expect(print_file(PLAIN, holder, verdicts, file) == sizeof file, "the file's length");
     /* A value of p in its first PV, the record behind SU and DL. */
     file[SU + DL + 8] = P % 256;
     file[SU + DL + 9] = P / 256;
@@ -154,13 +183,71 @@ static void show_file(uint16_t holder, const uint16_t *verdicts)
     printf("the same with a value of 257: refused %d at %zu\n", refusal, byte);
 }
 
-/* Opens a column by the holders in a set, from the shares of all. */
+/* Opens a column of a new dealing, at round 0, by the holders in a set, from the shares of all. */
 static void open_column(uint32_t set, uint16_t all[N][L], int b, uint16_t *secrets)
 {
-    uint16_t of_column[N], position;
+    uint16_t of_column[N], at_round[N] = {0}, position;
     for (int i = 0; i < N; i++)
         of_column[i] = all[i][b];
-    expect(open_combination(set, of_column, secrets, &position) == 0, "a column opens");
+    expect(open_combination(set, of_column, at_round, secrets, &position) == 0, "a column opens");
+}
+
+/* Deals zeros to all holders. */
+static void deal_zeros(void)
+{
+    enum { RANDOM = E * D };
+    uint16_t random[RANDOM];
+    for (int k = 0; k < RANDOM; k++)
+        random[k] = drawn();
+    expect(mavdrusek_deal_zero_all(SETUP, matrix, N * D, random, RANDOM, zero_gs, N * D, zero_hs, N * E) == 0, "a zero dealing");
+}
+
+/* Fresh shares for old drawers: a zero dealing, whose columns all open to zeros, is dealt, judged and added to the key's shares. The key stays, and what
+ * was copied from a drawer before no longer goes with the shares of the others. */
+static void refresh_shares(const uint8_t *key, uint32_t seven)
+{
+    uint8_t file[SU + DZ + N * PV + N * VD], opened[KEY] = {0};
+    const uint8_t untouched[KEY] = {0};
+    uint16_t verdicts[N], named[N], kept, first, position = 0;
+    deal_zeros();
+    judge_all_zero(verdicts, named);
+    for (int i = 0; i < N; i++) {
+        expect(verdicts[i] == 1, "accept of the zeros");
+        expect(mavdrusek_outcome(SETUP, zero_gs + i * D, D, verdicts, N, zeros[i], L, &kept, &first) == 0 && kept == 1, "kept of the zeros");
+    }
+    printf("zeros dealt to %d holders: all accept\n", N);
+    expect(print_file(ZEROS, 3, verdicts, file) == sizeof file, "the file's length");
+
+    /* Every holder adds its zero share of each column; one copy of a share is left in a drawer. */
+    uint16_t copied = shares[5][0], copied_round = rounds[5][0];
+    for (int i = 0; i < N; i++)
+        for (int b = 0; b < L; b++)
+            expect(mavdrusek_refresh(P, shares[i][b], rounds[i][b], zeros[i][b], &shares[i][b], &rounds[i][b]) == 0 && rounds[i][b] == 1, "a refresh");
+    expect(open_key(seven, opened, &position) == 0 && memcmp(opened, key, KEY) == 0, "the key at round 1");
+    printf("refreshed: holder 3's shares at round %d are %d %d %d %d; opened by seven: \"%.*s\"\n", rounds[3][0], shares[3][0], shares[3][1],
+           shares[3][2], shares[3][3], KEY, (char *)opened);
+
+    /* The copied share among the fresh ones: its round is another, and under their round it is a false share. */
+    uint16_t fresh = shares[5][0];
+    memcpy(opened, untouched, KEY);
+    shares[5][0] = copied;
+    rounds[5][0] = copied_round;
+    uint16_t refusal = open_key(0xff, opened, &position);
+    expect(refusal == 19, "an old share with new ones");
+    rounds[5][0] = 1;
+    expect(open_key(0xff, opened, &position) == 7, "an old share under the new round");
+    expect(memcmp(opened, untouched, KEY) == 0, "a refused opening writes no byte");
+    printf("an old share among eight: refused %d; under the new round it is refused as a false one\n", refusal);
+    shares[5][0] = fresh;
+
+    /* A dealer that lies about the zeros: one entry of holder 5's row part is changed. */
+    deal_zeros();
+    zero_gs[5 * D] = (zero_gs[5 * D] + 1) % P;
+    judge_all_zero(verdicts, named);
+    for (int i = 0; i < N; i++)
+        expect(verdicts[i] == 0 && named[i] == 5, "everyone names holder 5");
+    expect(mavdrusek_outcome(SETUP, zero_gs, D, verdicts, N, zeros[0], L, &kept, &first) == 0 && kept == 0 && first == 0, "aborted by holder 0");
+    printf("a lie in holder 5's zeros: everyone rejects and names 5; aborted by holder 0\n");
 }
 
 /* Twin boards: two keys tied by a public map are dealt together, and the holders check the map as well. */
@@ -185,7 +272,7 @@ static void twin_boards(const uint8_t *key, uint32_t seven)
         expect(mavdrusek_outcome(SETUP, gs2 + i * D, D, verdicts, N, shares2[i], L, &kept, &first) == 0 && kept == 1, "kept of the twin");
     }
     printf("twin boards: two keys tied by a map dealt to %d holders; all accept both and the map\n", N);
-    expect(print_file(1, 3, verdicts, file) == sizeof file, "the file's length");
+    expect(print_file(TWIN, 3, verdicts, file) == sizeof file, "the file's length");
 
     /* Seven open a column of both: the second is the map of the first. */
     open_column(seven, shares, 1, column);
@@ -217,7 +304,7 @@ int main(void)
     const uint8_t untouched[KEY] = {0};
     uint16_t random[D * D - KEY], array[KEY];
     uint16_t verdicts[N], named[N], kept, first, position = 0, yes, kind, steps, fair, checker, sender;
-    uint16_t column[L], combined[N], row[32];
+    uint16_t column[L], combined[N], at_round[N], row[32];
 
     /* The matrix of board keys, a points matrix, which dealing and opening have built in: any 7 holders determine the key, any 3 are private. */
     expect(mavdrusek_points(SETUP, matrix, N * D) == 0, "the points matrix");
@@ -247,10 +334,10 @@ int main(void)
     uint32_t seven = 1 << 0 | 1 << 2 | 1 << 4 | 1 << 5 | 1 << 7 | 1 << 10 | 1 << 15;
     expect(mavdrusek_determines(SETUP, matrix, N * D, seven, &yes) == 0 && yes == 1, "seven determine");
     for (int i = 0; i < N; i++) {
-        uint16_t constants[2] = {3, 5}, two[2] = {shares[i][0], shares[i][2]};
-        expect(mavdrusek_combine(P, constants, 2, two, 2, &combined[i]) == 0, "a combination");
+        uint16_t constants[2] = {3, 5}, two[2] = {shares[i][0], shares[i][2]}, their_rounds[2] = {rounds[i][0], rounds[i][2]};
+        expect(mavdrusek_combine(P, constants, 2, two, 2, their_rounds, 2, &combined[i], &at_round[i]) == 0 && at_round[i] == 0, "a combination");
     }
-    expect(open_combination(seven, combined, column, &position) == 0, "the combination opens");
+    expect(open_combination(seven, combined, at_round, column, &position) == 0, "the combination opens");
     for (int k = 0; k < L; k++)
         expect(column[k] == (3 * key[k] + 5 * key[2 * L + k]) % P, "the combination of the columns");
     printf("combined: 3 * column 0 + 5 * column 2 opens to %d %d %d %d\n", column[0], column[1], column[2], column[3]);
@@ -268,6 +355,8 @@ int main(void)
     expect(open_key(seven, opened, &position) == 0, "the key opens");
     expect(memcmp(opened, key, KEY) == 0, "the key dealt");
     printf("opened by seven: \"%.*s\"\n", KEY, (char *)opened);
+
+    refresh_shares(key, seven);
 
     /* Six of them cannot, three are private (a sweeping vector for every position), and a changed share among eight is noticed. */
     memcpy(opened, untouched, KEY);
@@ -313,6 +402,7 @@ int main(void)
     judge_all(gs, hs, verdicts, named);
     for (int i = 0; i < N; i++)
         expect(mavdrusek_outcome(SETUP, gs + i * D, D, verdicts, N, shares[i], L, &kept, &first) == 0 && kept == 1, "kept");
+    memset(rounds, 0, sizeof rounds);
     uint16_t refusal = open_key(0xffff, opened, &position);
     expect(refusal == 16 && memcmp(opened, untouched, KEY) == 0, "no key");
     printf("256 dealt for a byte: all accept; opened by all, it is no key: refused %d\n", refusal);

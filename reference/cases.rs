@@ -1,4 +1,12 @@
 //! Cases: one call with all that it is lent, how it is stored for the program `cases`, and what the reference answers.
+//!
+//! A stored case is a head of 20 words (16 bits, low byte first): the call by its number in CALLS; nine numbers; the lengths of nine slices of words and of
+//! one of bytes. Behind it stand those slices, in this order. The numbers are p, ℓ, e, n; then a holder; or a set's low and high half and a position; or the
+//! fields of a record to be written, of an SH all five; or a share, its round and a zero share to be refreshed. The slices of words are in the order of the
+//! call's parameters, rounds right behind their shares. The slice of bytes is the record or file read, the buffer written, or a board key.
+//!
+//! What is stored of it is one line, a space after each number: the number returned, the places in the order of the call's parameters, then every slice that
+//! may be written. A place holds 7777 before the call. Of a holder's file the line has the number, the count and the byte, then its text.
 
 use reference::*;
 use std::fmt::Write;
@@ -30,7 +38,7 @@ const fn call(name: &'static str, refusals: &'static [u16], places: usize, eleme
     Call { name, refusals, places, elements, written, bytes }
 }
 
-pub const CALLS: [Call; 35] = [
+pub const CALLS: [Call; 41] = [
     call("points", &[1, 2, 3, 15], 0, &[], &[0], Bytes::None),
     call("deal", &[1, 2, 3, 4, 5], 0, &[0, 1, 2], &[3, 4], Bytes::None),
     call("deal to all", &[1, 2, 3, 4], 0, &[0, 1, 2], &[3, 4], Bytes::None),
@@ -38,11 +46,11 @@ pub const CALLS: [Call; 35] = [
     call("judge", &[1, 2, 3, 4], 2, &[0, 1, 2], &[], Bytes::None),
     call("outcome", &[1, 2, 3, 4, 12], 2, &[0], &[2], Bytes::None),
     call("rehearse", &[1, 2, 3, 4], 3, &[0, 1, 2], &[], Bytes::None),
-    call("combine", &[1, 3, 4], 1, &[0, 1], &[], Bytes::None),
+    call("combine", &[1, 3, 4, 19], 2, &[0, 1], &[], Bytes::None),
     call("judge a set", &[1, 2, 3, 4, 5], 2, &[0], &[1], Bytes::None),
     call("determines", &[1, 2, 3, 4, 5], 1, &[0], &[], Bytes::None),
     call("private", &[1, 2, 3, 4, 5], 1, &[0], &[], Bytes::None),
-    call("open", &[1, 2, 3, 4, 5, 6, 7], 1, &[0, 1], &[2], Bytes::None),
+    call("open", &[1, 2, 3, 4, 5, 6, 7, 19], 1, &[0, 1], &[3], Bytes::None),
     call("holder's file, text", &[1, 2, 3, 4, 5, 8, 9, 10, 11, 12, 13, 17], 2, &[], &[], Bytes::Read),
     call("write SU", &[1, 2, 3, 4], 0, &[0], &[], Bytes::Written),
     call("write DL", &[1, 2, 3, 4, 5, 9], 0, &[0, 1], &[], Bytes::Written),
@@ -54,11 +62,11 @@ pub const CALLS: [Call; 35] = [
     call("read DL", &[1, 2, 3, 4, 5, 8, 9], 2, &[], &[0, 1], Bytes::Read),
     call("read PV", &[1, 2, 3, 4, 5, 8, 9], 4, &[], &[], Bytes::Read),
     call("read VD", &[1, 2, 3, 5, 8, 9, 12], 3, &[], &[], Bytes::Read),
-    call("read SH", &[1, 2, 3, 4, 5, 8], 4, &[], &[], Bytes::Read),
+    call("read SH", &[1, 2, 3, 4, 5, 8], 5, &[], &[], Bytes::Read),
     call("holder's file, contents", &[1, 2, 3, 4, 5, 8, 9, 10, 11, 12, 13, 17], 1, &[], &[0], Bytes::Read),
     call("field", &[1], 0, &[], &[], Bytes::None),
     call("deal a key", &[3, 4], 0, &[0], &[1, 2], Bytes::Read),
-    call("open a key", &[3, 4, 5, 6, 7, 16], 1, &[0], &[], Bytes::Written),
+    call("open a key", &[3, 4, 5, 6, 7, 16, 19], 1, &[0], &[], Bytes::Written),
     call("deal with a map", &[1, 2, 3, 4, 5], 0, &[0, 1, 2, 3, 4], &[5, 6, 7, 8], Bytes::None),
     call("deal with a map to all", &[1, 2, 3, 4], 0, &[0, 1, 2, 3, 4], &[5, 6, 7, 8], Bytes::None),
     call("judge with a map", &[1, 2, 3, 4], 2, &[0, 1, 2, 3, 4, 5], &[], Bytes::None),
@@ -66,6 +74,12 @@ pub const CALLS: [Call; 35] = [
     call("write PF", &[1, 2, 3, 4, 5, 9], 0, &[], &[], Bytes::Written),
     call("read DF", &[1, 2, 3, 4, 5, 8, 9], 2, &[], &[0, 1, 2], Bytes::Read),
     call("read PF", &[1, 2, 3, 4, 5, 8, 9], 4, &[], &[], Bytes::Read),
+    call("deal zero", &[1, 2, 3, 4, 5], 0, &[0, 1], &[2, 3], Bytes::None),
+    call("deal zero to all", &[1, 2, 3, 4], 0, &[0, 1], &[2, 3], Bytes::None),
+    call("judge zero", &[1, 2, 3, 4], 2, &[0, 1, 2], &[], Bytes::None),
+    call("refresh", &[1, 4, 18], 2, &[], &[], Bytes::None),
+    call("write DZ", &[1, 2, 3, 4, 5, 9], 0, &[0, 1], &[], Bytes::Written),
+    call("read DZ", &[1, 2, 3, 4, 5, 8, 9], 2, &[], &[0, 1], Bytes::Read),
 ];
 
 pub const FILE: u16 = 12;
@@ -80,19 +94,26 @@ pub const WRITE_DF: u16 = 31;
 pub const WRITE_PF: u16 = 32;
 pub const READ_DF: u16 = 33;
 pub const READ_PF: u16 = 34;
+pub const DEAL_ZERO: u16 = 35;
+pub const DEAL_ZERO_ALL: u16 = 36;
+pub const JUDGE_ZERO: u16 = 37;
+pub const REFRESH: u16 = 38;
+pub const WRITE_DZ: u16 = 39;
+pub const READ_DZ: u16 = 40;
 /// The calls of a second dealing tied by a map.
 pub const MAPPED: std::ops::RangeInclusive<u16> = DEAL_MAPPED..=READ_PF;
+/// The calls of a zero dealing, the refresh among them.
+pub const ZEROS: std::ops::RangeInclusive<u16> = DEAL_ZERO..=READ_DZ;
 
 /// What every place holds before a call.
 pub const UNTOUCHED: u16 = 7777;
 
-/// A call by its number in CALLS, its numbers and its slices. The numbers are p, ℓ, e, n; then a holder, a set's low and high half and a position, or
-/// the fields of a record to be written. The slices of words are in the order of the call's parameters. A board key is the slice of bytes; of the
-/// numbers its calls take the set alone.
+/// A call by its number in CALLS, its numbers and its slices, as the head of this file has them. Of the numbers the calls on a board key take the set
+/// alone.
 #[derive(Clone, Debug)]
 pub struct Case {
     pub call: u16,
-    pub numbers: [u16; 8],
+    pub numbers: [u16; 9],
     pub words: Vec<Vec<u16>>,
     pub bytes: Vec<u8>,
 }
@@ -128,8 +149,7 @@ impl Case {
         (self.numbers[4], self.numbers[5]) = (set as u16, (set >> 16) as u16);
     }
 
-    /// The call, its numbers, the lengths of nine slices of words and of one of bytes, then those slices; 16-bit words, low byte first, and bytes as they
-    /// are.
+    /// The head, then the slices.
     pub fn stored(&self) -> Vec<u8> {
         let mut head = vec![self.call];
         head.extend(self.numbers);
@@ -155,16 +175,16 @@ impl Case {
             (4, [m, h, values]) => judge(s, m, h, values),
             (5, [g, verdicts, shares]) => outcome(s, g, verdicts, shares),
             (6, [m, gs, hs]) => rehearse(s, m, gs, hs),
-            (7, [constants, shares]) => combine(s.p, constants, shares),
+            (7, [constants, shares, rounds]) => combine(s.p, constants, shares, rounds),
             (8, [m, out]) => judge_set(s, m, set, x[6], out),
             (9, [m]) => determines(s, m, set),
             (10, [m]) => private(s, m, set),
-            (11, [m, shares, secrets]) => open(s, m, set, shares, secrets),
+            (11, [m, shares, rounds, secrets]) => open(s, m, set, shares, rounds, secrets),
             (13, [m]) => write_setup(s, m, &mut bytes),
             (14, [g, h]) => write_dealing(s, x[4], x[5], g, h, &mut bytes),
             (15, []) => write_pair_value(s, x[4], x[5], x[6], x[7], &mut bytes),
             (16, []) => write_verdict(s, x[4], x[5], x[6], &mut bytes),
-            (17, []) => write_share(s, x[4], x[5], x[6], x[7], &mut bytes),
+            (17, []) => write_share(s, [x[4], x[5], x[6], x[7], x[8]], &mut bytes),
             (18, []) => read_setup_head(&bytes),
             (19, [m]) => read_setup_matrix(&bytes, m),
             (20, [g, h]) => read_dealing(s, &bytes, g, h),
@@ -174,7 +194,7 @@ impl Case {
             (READ_FILE, [contents]) => read_file(&bytes, contents),
             (FIELD, []) => field(s.p),
             (DEAL_KEY, [random, gs, hs]) => deal_key(&bytes, random, gs, hs),
-            (OPEN_KEY, [shares]) => open_key(set, shares, &mut bytes),
+            (OPEN_KEY, [shares, rounds]) => open_key(set, shares, rounds, &mut bytes),
             (DEAL_MAPPED, [m, secrets, random, phi, random2, g, h, g2, h2]) => {
                 deal_mapped(s, m, Mapped { secrets, random, phi, random2 }, x[4], [g, h, g2, h2])
             }
@@ -186,14 +206,19 @@ impl Case {
             (WRITE_PF, []) => write_mapped_pair_value(s, x[4], x[5], x[6], x[7], &mut bytes),
             (READ_DF, [g, h, phi]) => read_mapped_dealing(s, &bytes, [g, h, phi]),
             (READ_PF, []) => read_mapped_pair_value(s, &bytes),
+            (DEAL_ZERO, [m, random, g, h]) => deal_zero(s, m, random, x[4], g, h),
+            (DEAL_ZERO_ALL, [m, random, gs, hs]) => deal_zero_all(s, m, random, gs, hs),
+            (JUDGE_ZERO, [m, h, values]) => judge_zero(s, m, h, values),
+            (REFRESH, []) => refresh(s.p, x[4], x[5], x[6]),
+            (WRITE_DZ, [g, h]) => write_zero_dealing(s, x[4], x[5], g, h, &mut bytes),
+            (READ_DZ, [g, h]) => read_zero_dealing(s, &bytes, g, h),
             _ => panic!("no such call: {self:?}"),
         };
         let places = (0..self.of().places).map(|k| answer.values.get(k).copied().unwrap_or(UNTOUCHED)).collect();
         After { number: answer.number, places, words, bytes }
     }
 
-    /// One line: the number, the places, then every slice that may be written, a space after each number. Of a holder's file the number, the count and
-    /// the byte, then its text.
+    /// The line that is stored of it.
     ///
     /// Which sweeping vector the judgement of a set writes is left open, and only that. Its buffer is stored all the same: the proved library and the
     /// reference both take the solution with zeros at the free unknowns, where the pivots are leftmost, and there is only one.

@@ -19,8 +19,8 @@ fn ours(case: &Case) -> After {
     let set = case.set();
     let Case { call, numbers: x, mut words, mut bytes } = case.clone();
     let [p, l, e, n, ..] = x;
-    let mut places = [UNTOUCHED; 4];
-    let [a, b, c, d] = &mut places;
+    let mut places = [UNTOUCHED; 5];
+    let [a, b, c, d, f] = &mut places;
     let (part, part_len) = (bytes.as_mut_ptr(), bytes.len());
     // Every pointer comes with the length of the vector behind it, and no two vectors overlap.
     let number = unsafe {
@@ -36,30 +36,46 @@ fn ours(case: &Case) -> After {
             (4, [m, h, v]) => mavdrusek_judge(p, l, e, n, m.as_ptr(), m.len(), h.as_ptr(), h.len(), v.as_ptr(), v.len(), a, b),
             (5, [g, v, s]) => mavdrusek_outcome(p, l, e, n, g.as_ptr(), g.len(), v.as_ptr(), v.len(), s.as_mut_ptr(), s.len(), a, b),
             (6, [m, g, h]) => mavdrusek_rehearse(p, l, e, n, m.as_ptr(), m.len(), g.as_ptr(), g.len(), h.as_ptr(), h.len(), a, b, c),
-            (7, [k, s]) => mavdrusek_combine(p, k.as_ptr(), k.len(), s.as_ptr(), s.len(), a),
+            (7, [k, s, r]) => mavdrusek_combine(p, k.as_ptr(), k.len(), s.as_ptr(), s.len(), r.as_ptr(), r.len(), a, b),
             (8, [m, out]) => mavdrusek_judge_set(p, l, e, n, m.as_ptr(), m.len(), set, x[6], out.as_mut_ptr(), out.len(), a, b),
             (9, [m]) => mavdrusek_determines(p, l, e, n, m.as_ptr(), m.len(), set, a),
             (10, [m]) => mavdrusek_private(p, l, e, n, m.as_ptr(), m.len(), set, a),
-            (11, [m, s, out]) => mavdrusek_open(p, l, e, n, m.as_ptr(), m.len(), set, s.as_ptr(), s.len(), out.as_mut_ptr(), out.len(), a),
+            (11, [m, s, r, out]) => mavdrusek_open(
+                p, l, e, n, m.as_ptr(), m.len(), set, s.as_ptr(), s.len(), r.as_ptr(), r.len(), out.as_mut_ptr(), out.len(), a,
+            ),
             (13, [m]) => mavdrusek_write_setup(p, l, e, n, m.as_ptr(), m.len(), part, part_len),
             (14, [g, h]) => mavdrusek_write_dealing(p, l, e, n, x[4], x[5], g.as_ptr(), g.len(), h.as_ptr(), h.len(), part, part_len),
             (15, []) => mavdrusek_write_pair_value(p, l, e, n, x[4], x[5], x[6], x[7], part, part_len),
             (16, []) => mavdrusek_write_verdict(p, l, e, n, x[4], x[5], x[6], part, part_len),
-            (17, []) => mavdrusek_write_share(p, l, e, n, x[4], x[5], x[6], x[7], part, part_len),
+            (17, []) => mavdrusek_write_share(p, l, e, n, x[4], x[5], x[6], x[7], x[8], part, part_len),
             (18, []) => mavdrusek_read_setup_head(part, part_len, a, b, c, d),
             (19, [m]) => mavdrusek_read_setup_matrix(part, part_len, m.as_mut_ptr(), m.len()),
             (20, [g, h]) => mavdrusek_read_dealing(p, l, e, n, part, part_len, g.as_mut_ptr(), g.len(), h.as_mut_ptr(), h.len(), a, b),
             (21, []) => mavdrusek_read_pair_value(p, l, e, n, part, part_len, a, b, c, d),
             (22, []) => mavdrusek_read_verdict(p, l, e, n, part, part_len, a, b, c),
-            (23, []) => mavdrusek_read_share(p, l, e, n, part, part_len, a, b, c, d),
+            (23, []) => mavdrusek_read_share(p, l, e, n, part, part_len, a, b, c, d, f),
             (FIELD, []) => mavdrusek_field(p),
             (DEAL_KEY, [r, g, h]) => {
                 mavdrusek_deal_key(part, part_len, r.as_ptr(), r.len(), g.as_mut_ptr(), g.len(), h.as_mut_ptr(), h.len())
             }
-            (OPEN_KEY, [s]) => mavdrusek_open_key(set, s.as_ptr(), s.len(), part, part_len, a),
+            (OPEN_KEY, [s, r]) => mavdrusek_open_key(set, s.as_ptr(), s.len(), r.as_ptr(), r.len(), part, part_len, a),
             (WRITE_PF, []) => mavdrusek_write_mapped_pair_value(p, l, e, n, x[4], x[5], x[6], x[7], part, part_len),
             (READ_PF, []) => mavdrusek_read_mapped_pair_value(p, l, e, n, part, part_len, a, b, c, d),
             (DEAL_MAPPED..=READ_DF, words) => mapped(call, x, words, part, part_len, a, b),
+            (DEAL_ZERO, [m, r, g, h]) => mavdrusek_deal_zero(
+                p, l, e, n, m.as_ptr(), m.len(), r.as_ptr(), r.len(), x[4], g.as_mut_ptr(), g.len(), h.as_mut_ptr(), h.len(),
+            ),
+            (DEAL_ZERO_ALL, [m, r, g, h]) => mavdrusek_deal_zero_all(
+                p, l, e, n, m.as_ptr(), m.len(), r.as_ptr(), r.len(), g.as_mut_ptr(), g.len(), h.as_mut_ptr(), h.len(),
+            ),
+            (JUDGE_ZERO, [m, h, v]) => mavdrusek_judge_zero(p, l, e, n, m.as_ptr(), m.len(), h.as_ptr(), h.len(), v.as_ptr(), v.len(), a, b),
+            (REFRESH, []) => mavdrusek_refresh(p, x[4], x[5], x[6], a, b),
+            (WRITE_DZ, [g, h]) => {
+                mavdrusek_write_zero_dealing(p, l, e, n, x[4], x[5], g.as_ptr(), g.len(), h.as_ptr(), h.len(), part, part_len)
+            }
+            (READ_DZ, [g, h]) => {
+                mavdrusek_read_zero_dealing(p, l, e, n, part, part_len, g.as_mut_ptr(), g.len(), h.as_mut_ptr(), h.len(), a, b)
+            }
             _ => panic!("no such call: {case:?}"),
         }
     };
@@ -67,7 +83,7 @@ fn ours(case: &Case) -> After {
 }
 
 /// The calls of a second dealing that take or give lists, on their slices of words, a slice of bytes and two places.
-unsafe fn mapped(call: u16, x: [u16; 8], words: &mut [Vec<u16>], part: *mut u8, part_len: usize, a: &mut u16, b: &mut u16) -> u16 {
+unsafe fn mapped(call: u16, x: [u16; 9], words: &mut [Vec<u16>], part: *mut u8, part_len: usize, a: &mut u16, b: &mut u16) -> u16 {
     let [p, l, e, n, ..] = x;
     match (call, words) {
         (DEAL_MAPPED, [m, s, r, f, r2, g, h, g2, h2]) => mavdrusek_deal_mapped(
@@ -149,7 +165,11 @@ fn agree_on_file(file: &[u8], text: &[u8], contents: &[u16]) -> bool {
 
 /// A file, the buffer for its text and the one for its contents, now and then one of a length that is refused.
 fn draw_file(r: &mut Random) -> (Vec<u8>, Vec<u8>, Vec<u16>) {
-    let mut file = if r.chance(2) { draw(r, FILE).bytes } else { with_second(r).bytes };
+    let mut file = match r.below(3) {
+        0 => draw(r, FILE).bytes,
+        1 => with_second(r).bytes,
+        _ => with_zeros(r).bytes,
+    };
     if r.chance(200) {
         let size = r.one(&[4095, 4096, 4097, 5000]);
         file.resize(size, 0);
@@ -179,7 +199,7 @@ fn main() {
             1 if on_a_set => tied(&mut r, call),
             _ => draw(&mut r, call),
         };
-        differ += !agree(&c) as u64;
+        differ += !agree(&rounded(&mut r, c)) as u64;
     }
     for _ in 0..calls.div_ceil(5) {
         let (file, text, contents) = draw_file(&mut r);

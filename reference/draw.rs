@@ -1,4 +1,5 @@
-//! Seeded draws of cases: sizes, matrices, calls in order, and damage.
+//! Seeded draws of cases: sizes, matrices, calls in order, and damage. Calls that take shares are drawn without rounds, and an SH without its round;
+//! `with_rounds` puts them in.
 
 use crate::cases::*;
 use reference::*;
@@ -38,6 +39,11 @@ impl Random {
             set |= 1 << self.below(n);
         }
         set
+    }
+    /// A round: the first or the last ones, or any.
+    pub fn round(&mut self) -> u16 {
+        let any = self.next() as u16;
+        self.one(&[0, 1, 65534, 65535, any, any])
     }
     /// What a lent buffer holds before a call.
     pub fn noise(&mut self, n: usize) -> Vec<u16> {
@@ -267,6 +273,34 @@ impl<'a> Draw<'a> {
         all
     }
 
+    /// An honest zero dealing: its random entries, every g and every h.
+    pub fn zero(&mut self) -> ZeroDealing {
+        let s = self.s;
+        let random = self.r.elements(s.p, s.e as usize * s.d());
+        let (mut gs, mut hs) = (vec![0; s.entries()], vec![0; s.n as usize * s.e as usize]);
+        deal_zero_all(s, &self.m, &random, &mut gs, &mut hs);
+        ZeroDealing { random, gs, hs }
+    }
+
+    /// What holder i of this zero dealing has received.
+    pub fn received_zero(&self, x: &ZeroDealing, i: usize) -> ReceivedZero {
+        let (d, e) = (self.s.d(), self.s.e as usize);
+        let (g, h) = (x.gs[i * d..(i + 1) * d].to_vec(), x.hs[i * e..(i + 1) * e].to_vec());
+        ReceivedZero { holder: i as u16, g, judged: vec![self.m.clone(), h, self.values(&x.gs, i)] }
+    }
+
+    /// The records of a zero dealing's file: SU, DZ, then PV and VD.
+    pub fn zero_records_of(&self, number: u16, x: &ReceivedZero, verdicts: &[u16]) -> Vec<Vec<u16>> {
+        let ReceivedZero { holder, g, judged } = x;
+        let [m, h, values] = &judged[..] else { panic!("not what is judged of a zero dealing: {judged:?}") };
+        let s = self.s;
+        let mut all = vec![[&[SU, s.p, s.l, s.e, s.n], &m[..]].concat()];
+        all.push([&[DZ, number, *holder], &g[..], h].concat());
+        all.extend((0..s.n).map(|j| vec![PV, number, j, *holder, values[j as usize]]));
+        all.extend((0..s.n).map(|j| vec![VD, number, j, verdicts[j as usize]]));
+        all
+    }
+
     /// The values that holder i receives in an honest dealing.
     fn values(&self, gs: &[u16], i: usize) -> Vec<u16> {
         let d = self.s.d();
@@ -281,7 +315,7 @@ impl<'a> Draw<'a> {
     /// The opening of a key by a set, each column with the shares that its vector gives.
     pub fn opening(&mut self, set: u32, columns: &[Vec<u16>; 4]) -> Case {
         let shares = columns.iter().flat_map(|v| self.shares(v, set)).collect();
-        let mut c = Case { call: OPEN_KEY, numbers: [0; 8], words: vec![shares], bytes: self.r.noise_bytes(KEY) };
+        let mut c = Case { call: OPEN_KEY, numbers: [0; 9], words: vec![shares], bytes: self.r.noise_bytes(KEY) };
         c.choose(set);
         c
     }
@@ -306,6 +340,7 @@ impl<'a> Draw<'a> {
             VD => vec![VD, number, i, r.below(2) as u16],
             DF => [vec![DF, number, i], r.elements(s.p, 2 * s.d() + s.l as usize * s.l as usize)].concat(),
             PF => vec![PF, number, i, j, value],
+            DZ => [vec![DZ, number, i], r.elements(s.p, s.d() + s.e as usize)].concat(),
             _ if r.chance(3) => vec![SH, 0, i, 0, value],
             _ => vec![SH, number, i, r.below(s.l as usize) as u16, value],
         }
@@ -314,7 +349,7 @@ impl<'a> Draw<'a> {
     /// A call in order.
     pub fn case(&mut self, call: u16) -> Case {
         let (s, d, l, n) = (self.s, self.s.d(), self.s.l as usize, self.s.n as usize);
-        let mut c = Case { call, numbers: [s.p, s.l, s.e, s.n, 0, 0, 0, 0], words: vec![], bytes: vec![] };
+        let mut c = Case { call, numbers: setup_numbers(s), words: vec![], bytes: vec![] };
         let m = self.m.clone();
         match call {
             0 => c.words = vec![self.r.noise(s.entries())],
@@ -376,7 +411,7 @@ impl<'a> Draw<'a> {
                 }
             }
             DEAL_KEY => {
-                c.numbers = [0; 8];
+                c.numbers = [0; 9];
                 c.words = vec![self.r.elements(s.p, d * d - l * l), self.r.noise(s.entries()), self.r.noise(s.entries())];
                 c.bytes = self.r.noise_bytes(KEY);
             }
@@ -413,13 +448,25 @@ impl<'a> Draw<'a> {
                 let record = self.record([DF, PF][(call - WRITE_DF) as usize]);
                 c = writing(s, &record, self.r);
             }
-            READ_DF | READ_PF => {
-                let record = self.record([DF, PF][(call - READ_DF) as usize]);
+            READ_DF | READ_PF | READ_DZ => {
+                let record = self.record(if call == READ_DZ { DZ } else { [DF, PF][(call - READ_DF) as usize] });
                 c = reading(s, call, &record, self.r);
                 if self.r.chance(4) {
                     let more = 1 + self.r.below(12);
                     c.bytes.extend(self.r.noise_bytes(more));
                 }
+            }
+            DEAL_ZERO | DEAL_ZERO_ALL => {
+                let random = self.zero().random;
+                let (gs, hs) = if call == DEAL_ZERO { (d, d - l) } else { (s.entries(), n * (d - l)) };
+                c.numbers[4] = if call == DEAL_ZERO { self.r.below(n) as u16 } else { 0 };
+                c.words = vec![m, random, self.r.noise(gs), self.r.noise(hs)];
+            }
+            JUDGE_ZERO => c.words = self.zero_to_judge().judged,
+            REFRESH => c.numbers[4..7].copy_from_slice(&[self.r.below(s.p as usize) as u16, self.r.round(), self.r.below(s.p as usize) as u16]),
+            WRITE_DZ => {
+                let record = self.record(DZ);
+                c = writing(s, &record, self.r);
             }
             _ => {}
         }
@@ -441,6 +488,18 @@ impl<'a> Draw<'a> {
         }
         while self.r.chance(3) {
             let k = self.r.one(&[2, 5]);
+            self.spoil(&mut x.judged[k]);
+        }
+        x
+    }
+
+    /// What some holder has received in a zero dealing: now and then with wrong values, or with another h.
+    fn zero_to_judge(&mut self) -> ReceivedZero {
+        let i = self.r.below(self.s.n as usize);
+        let dealing = self.zero();
+        let mut x = self.received_zero(&dealing, i);
+        while self.r.chance(3) {
+            let k = self.r.one(&[1, 2, 2]);
             self.spoil(&mut x.judged[k]);
         }
         x
@@ -482,19 +541,20 @@ impl<'a> Draw<'a> {
         bytes(&words)
     }
 
-    /// A holder's file with a DF as the rules have it; now and then a holder rejects, the own VD is against the judgement, or a record is out of its place,
-    /// another, there twice or gone.
-    pub fn mapped_file(&mut self) -> Vec<u8> {
-        let x = self.to_judge();
+    /// The verdicts in a file, the holder's own as its judgement has it; now and then a holder rejects, or the own VD is against the judgement.
+    fn verdicts(&mut self, holder: u16, own: u16) -> Vec<u16> {
         let mut verdicts = vec![1; self.s.n as usize];
         if self.r.chance(3) {
             verdicts[self.r.below(self.s.n as usize)] = 0;
         }
         if !self.r.chance(8) {
-            verdicts[x.holder as usize] = x.verdict(self.s);
+            verdicts[holder as usize] = own;
         }
-        let number = 1 + self.r.below(65535) as u16;
-        let mut all = self.records_of(number, &x, &verdicts);
+        verdicts
+    }
+
+    /// A file of these records; now and then one is out of its place, another, there twice or gone.
+    fn misplaced(&mut self, mut all: Vec<Vec<u16>>) -> Vec<u8> {
         let (a, b) = (self.r.below(all.len()), 1 + self.r.below(all.len() - 1));
         match self.r.below(12) {
             0 => all[2..].rotate_left(a.max(2) - 2),
@@ -505,6 +565,22 @@ impl<'a> Draw<'a> {
             _ => {}
         }
         bytes(&all.concat())
+    }
+
+    /// A holder's file with a DF as the rules have it, or with a fault.
+    pub fn mapped_file(&mut self) -> Vec<u8> {
+        let x = self.to_judge();
+        let verdicts = self.verdicts(x.holder, x.verdict(self.s));
+        let number = 1 + self.r.below(65535) as u16;
+        self.misplaced(self.records_of(number, &x, &verdicts))
+    }
+
+    /// The file of a zero dealing as the rules have it, or with a fault.
+    pub fn zero_file(&mut self) -> Vec<u8> {
+        let x = self.zero_to_judge();
+        let verdicts = self.verdicts(x.holder, x.verdict(self.s));
+        let number = 1 + self.r.below(65535) as u16;
+        self.misplaced(self.zero_records_of(number, &x, &verdicts))
     }
 }
 
@@ -527,12 +603,86 @@ pub struct Received {
 impl Received {
     /// The call that judges it.
     pub fn case(&self, s: Params) -> Case {
-        Case { call: JUDGE_MAPPED, numbers: [s.p, s.l, s.e, s.n, 0, 0, 0, 0], words: self.judged.clone(), bytes: vec![] }
+        Case { call: JUDGE_MAPPED, numbers: setup_numbers(s), words: self.judged.clone(), bytes: vec![] }
     }
     /// Its verdict, 1 or 0.
     pub fn verdict(&self, s: Params) -> u16 {
         self.case(s).run().places[0]
     }
+}
+
+/// A zero dealing: its random entries, then every g and every h.
+pub struct ZeroDealing {
+    pub random: Vec<u16>,
+    pub gs: Vec<u16>,
+    pub hs: Vec<u16>,
+}
+
+/// What a holder has received in a zero dealing: its g, and what it judges, as the call takes it: matrix, h and values.
+#[derive(Clone)]
+pub struct ReceivedZero {
+    pub holder: u16,
+    pub g: Vec<u16>,
+    pub judged: Vec<Vec<u16>>,
+}
+
+impl ReceivedZero {
+    /// The call that judges it.
+    pub fn case(&self, s: Params) -> Case {
+        Case { call: JUDGE_ZERO, numbers: setup_numbers(s), words: self.judged.clone(), bytes: vec![] }
+    }
+    /// Its verdict, 1 or 0.
+    pub fn verdict(&self, s: Params) -> u16 {
+        self.case(s).run().places[0]
+    }
+}
+
+/// The numbers of a case on a setup.
+pub fn setup_numbers(s: Params) -> [u16; 9] {
+    [s.p, s.l, s.e, s.n, 0, 0, 0, 0, 0]
+}
+
+/// A case with the rounds of the shares that it is lent, as many as there are shares: `rounds` gives those of so many shares that go together. A board key's
+/// are given column by column. An SH gets one behind its value, in a buffer of two bytes more; one that is cut short within its value stays as it is.
+pub fn with_rounds(mut c: Case, mut rounds: impl FnMut(usize) -> Vec<u16>) -> Case {
+    match c.call {
+        7 => {
+            let all = rounds(c.words[1].len());
+            c.words.push(all);
+        }
+        11 => {
+            let all = rounds(c.words[1].len());
+            c.words.insert(2, all);
+        }
+        OPEN_KEY => {
+            let column = c.set().count_ones().max(1) as usize;
+            let all = c.words[0].chunks(column).flat_map(|shares| rounds(shares.len())).collect();
+            c.words.push(all);
+        }
+        17 => {
+            c.numbers[8] = rounds(1)[0];
+            c.bytes.extend(bytes(&[UNTOUCHED]));
+        }
+        23 if c.bytes.len() >= 10 => drop(c.bytes.splice(10..10, bytes(&rounds(1)))),
+        _ => {}
+    }
+    c
+}
+
+/// The same with drawn rounds: mostly they agree; now and then one is another, or there is one too many or too few.
+pub fn rounded(r: &mut Random, c: Case) -> Case {
+    let mut c = with_rounds(c, |count| {
+        let mut all = vec![r.round(); count];
+        if count > 0 && r.chance(8) {
+            all[r.below(count)] = r.round();
+        }
+        all
+    });
+    let at = [(7, 2), (11, 2), (OPEN_KEY, 1)].into_iter().find(|x| x.0 == c.call);
+    if let Some((_, at)) = at.filter(|_| r.chance(40)) {
+        resize(r, &mut c.words[at]);
+    }
+    c
 }
 
 /// The call that writes this record.
@@ -551,9 +701,13 @@ pub fn writing(s: Params, record: &[u16], r: &mut Random) -> Case {
             (WRITE_DF, &record[1..3], vec![g.to_vec(), h.to_vec(), phi.to_vec()])
         }
         PF => (WRITE_PF, &record[1..], vec![]),
+        DZ => {
+            let (g, h) = record[3..].split_at(s.d());
+            (WRITE_DZ, &record[1..3], vec![g.to_vec(), h.to_vec()])
+        }
         _ => (17, &record[1..], vec![]),
     };
-    let mut numbers = [s.p, s.l, s.e, s.n, 0, 0, 0, 0];
+    let mut numbers = setup_numbers(s);
     numbers[4..4 + x.len()].copy_from_slice(x);
     Case { call, numbers, words, bytes: r.noise_bytes(2 * record.len()) }
 }
@@ -564,9 +718,10 @@ pub fn reading(s: Params, call: u16, record: &[u16], r: &mut Random) -> Case {
         19 => vec![r.noise(s.entries())],
         20 => vec![r.noise(s.d()), r.noise(s.d())],
         READ_DF => vec![r.noise(s.d()), r.noise(s.d()), r.noise(s.l as usize * s.l as usize)],
+        READ_DZ => vec![r.noise(s.d()), r.noise(s.e as usize)],
         _ => vec![],
     };
-    Case { call, numbers: [s.p, s.l, s.e, s.n, 0, 0, 0, 0], words, bytes: bytes(record) }
+    Case { call, numbers: setup_numbers(s), words, bytes: bytes(record) }
 }
 
 /// Sets word k of some bytes, if it is there.
@@ -664,7 +819,11 @@ fn damage(r: &mut Random, c: &mut Case) {
         }
         4 => c.numbers[4 + r.below(4)] = r.one(&limits),
         5 if c.of().bytes == Bytes::Read => {
-            let w = if MAPPED.contains(&c.call) { r.one(&[SU, DL, PV, VD, SH, DF, PF, 0]) } else { r.one(&[SU, DL, PV, VD, SH, 0]) };
+            let w = match c.call {
+                READ_DZ => r.one(&[SU, DL, PV, VD, SH, DF, PF, DZ, 0]),
+                call if MAPPED.contains(&call) => r.one(&[SU, DL, PV, VD, SH, DF, PF, 0]),
+                _ => r.one(&[SU, DL, PV, VD, SH, 0]),
+            };
             put(&mut c.bytes, 0, w);
         }
         6 if c.of().bytes == Bytes::Read => c.bytes.truncate(r.below(c.bytes.len() + 1)),
@@ -674,6 +833,7 @@ fn damage(r: &mut Random, c: &mut Case) {
                 *b = r.below(256) as u8;
             }
         }
+        _ if c.call == REFRESH => c.numbers[5] = r.one(&[65534, 65535]),
         _ => match c.call {
             5 if !c.words[1].is_empty() => {
                 let k = r.below(c.words[1].len());
@@ -736,5 +896,11 @@ pub fn tied(r: &mut Random, call: u16) -> Case {
 /// A holder's file with a DF.
 pub fn with_second(r: &mut Random) -> Case {
     let bytes = if r.chance(8) { Draw::any(r).mapped_file() } else { Draw::new(r).mapped_file() };
-    damaged(r, Case { call: FILE, numbers: [0; 8], words: vec![], bytes })
+    damaged(r, Case { call: FILE, numbers: [0; 9], words: vec![], bytes })
+}
+
+/// The file of a zero dealing.
+pub fn with_zeros(r: &mut Random) -> Case {
+    let bytes = if r.chance(8) { Draw::any(r).zero_file() } else { Draw::new(r).zero_file() };
+    damaged(r, Case { call: FILE, numbers: [0; 9], words: vec![], bytes })
 }

@@ -1,4 +1,5 @@
-//! The cases at the limits: every refusal of every call, each limit and one past it, each lent length and one beside it, records cut at every byte.
+//! The cases at the limits: every refusal of every call, each limit and one past it, each lent length and one beside it, records cut at every byte. They
+//! are without rounds, as those of draw.rs; what rounds can do stands in rounds.rs.
 
 use crate::cases::*;
 use crate::draw::*;
@@ -6,7 +7,8 @@ use crate::files::{example, other_records, zeros};
 use reference::*;
 
 /// The calls that read a record, with its mark.
-const READERS: [(u16, u16); 8] = [(18, SU), (19, SU), (20, DL), (21, PV), (22, VD), (23, SH), (READ_DF, DF), (READ_PF, PF)];
+const READERS: [(u16, u16); 9] =
+    [(18, SU), (19, SU), (20, DL), (21, PV), (22, VD), (23, SH), (READ_DF, DF), (READ_PF, PF), (READ_DZ, DZ)];
 
 pub fn params(p: u16, l: u16, e: u16, n: u16) -> Params {
     Params { p, l, e, n }
@@ -51,6 +53,11 @@ fn needed(call: u16, s: Params) -> (Vec<usize>, usize) {
         DEAL_MAPPED_ALL => (vec![all, l * l, d * d - l * l, l * l, (d - l) * d, all, all, all, all], 0),
         JUDGE_MAPPED => (vec![all, d, n, l * l, d, n], 0),
         WRITE_DF | READ_DF => (vec![d, d, l * l], 6 + 4 * d + 2 * l * l),
+        DEAL_ZERO => (vec![all, (d - l) * d, d, d - l], 0),
+        DEAL_ZERO_ALL => (vec![all, (d - l) * d, all, n * (d - l)], 0),
+        JUDGE_ZERO => (vec![all, d - l, n], 0),
+        REFRESH => (vec![], 0),
+        WRITE_DZ | READ_DZ => (vec![d, d - l], 6 + 2 * d + 2 * (d - l)),
         _ => (vec![], 10),
     }
 }
@@ -59,7 +66,7 @@ fn needed(call: u16, s: Params) -> (Vec<usize>, usize) {
 pub fn blank(call: u16, s: Params) -> Case {
     let (words, size) = needed(call, s);
     let words: Vec<Vec<u16>> = words.iter().map(|&k| vec![0; k.min(528)]).collect();
-    let mut c = Case { call, numbers: [s.p, s.l, s.e, s.n, 0, 0, 0, 0], words, bytes: vec![0; size.min(4096)] };
+    let mut c = Case { call, numbers: setup_numbers(s), words, bytes: vec![0; size.min(4096)] };
     if let Some((_, mark)) = READERS.iter().find(|x| x.0 == call) {
         put(&mut c.bytes, 0, *mark);
     }
@@ -160,7 +167,7 @@ fn on_set(r: &mut Random, m: &[u16], s: Params, set: u32, position: u16) -> Vec<
     let shares: Vec<u16> = members.map(|i| pair_value(s, m, &v, i).values.first().copied().unwrap_or(0)).collect();
     let mut cases: Vec<Case> = (8..12)
         .map(|call| {
-            let mut c = Case { call, numbers: [s.p, s.l, s.e, s.n, 0, 0, position, 0], words: vec![m.to_vec()], bytes: vec![] };
+            let mut c = Case { call, numbers: [s.p, s.l, s.e, s.n, 0, 0, position, 0, 0], words: vec![m.to_vec()], bytes: vec![] };
             c.choose(set);
             match call {
                 8 => c.words.push(r.noise(32)),
@@ -170,7 +177,7 @@ fn on_set(r: &mut Random, m: &[u16], s: Params, set: u32, position: u16) -> Vec<
             c
         })
         .collect();
-    if cases[3].run().number == 0 {
+    if with_rounds(cases[3].clone(), |count| vec![0; count]).run().number == 0 {
         let mut spoilt = cases[3].clone();
         let last = spoilt.words[1].last_mut().unwrap();
         *last = (*last + 1) % s.p;
@@ -179,7 +186,7 @@ fn on_set(r: &mut Random, m: &[u16], s: Params, set: u32, position: u16) -> Vec<
     cases
 }
 
-fn matrix(r: &mut Random, s: Params, kind: usize) -> Vec<u16> {
+pub fn matrix(r: &mut Random, s: Params, kind: usize) -> Vec<u16> {
     Draw::with(r, s, kind).record(SU).split_off(5)
 }
 
@@ -388,10 +395,10 @@ fn combinations(r: &mut Random, cases: &mut Vec<Case>) {
 /// The sum of no columns, opened by every set of four holders: of those that determine both positions, one or none. Then by all four, one of them lying.
 fn sums_of_none(cases: &mut Vec<Case>) {
     for p in PRIMES {
-        let none = combine(p, &[], &[]).values[0];
+        let none = combine(p, &[], &[], &[]).values[0];
         let mut open = |set: u32, shares: Vec<u16>| {
             let words = vec![vec![1, 0, 0, 0, 1, 0, 0, 0, 1, 1, 1, 0], shares, vec![9; 2]];
-            let mut c = Case { call: 11, numbers: [p, 2, 1, 4, 0, 0, 0, 0], words, bytes: vec![] };
+            let mut c = Case { call: 11, numbers: setup_numbers(params(p, 2, 1, 4)), words, bytes: vec![] };
             c.choose(set);
             cases.push(c);
         };
@@ -414,7 +421,7 @@ fn disagreements(r: &mut Random, cases: &mut Vec<Case>) {
         let (secrets, random) = (r.elements(p, 1), r.elements(p, 3));
         let (mut gs, mut hs) = (vec![0; 6], vec![0; 6]);
         deal_all(s, &m, &secrets, &random, &mut gs, &mut hs);
-        let case = |call, words| Case { call, numbers: [p, 1, 1, 3, 0, 0, 0, 0], words, bytes: vec![] };
+        let case = |call, words| Case { call, numbers: setup_numbers(s), words, bytes: vec![] };
         let next = |xs: &[u16], k: usize| {
             let mut xs = xs.to_vec();
             xs[k] = (xs[k] + 1) % p;
@@ -504,7 +511,7 @@ fn records(r: &mut Random, cases: &mut Vec<Case>) {
                 cases.extend(near);
             }
         }
-        for (call, _) in READERS.into_iter().filter(|&(call, _)| !MAPPED.contains(&call)) {
+        for (call, _) in READERS.into_iter().filter(|&(call, _)| call < DEAL_MAPPED) {
             cut_and_marked(r, s, call, &[SU, DL, PV, VD, SH], cases);
         }
     }
@@ -549,26 +556,28 @@ fn records(r: &mut Random, cases: &mut Vec<Case>) {
 }
 
 /// Makes a refusal apply to a sound case.
-fn fault(c: &mut Case, number: u16) {
+pub fn fault(c: &mut Case, number: u16) {
     let s = c.params();
     match (c.call, number) {
         (18 | 19, 1) => put(&mut c.bytes, 1, 3),
         (_, 1) => c.numbers[0] = 3,
         (18 | 19, 2) => put(&mut c.bytes, 3, 9),
         (_, 2) => c.numbers[2] = 9,
-        (18..=23 | READ_DF | READ_PF, 3) => c.bytes.truncate(c.bytes.len() - 1),
-        (13..=17 | WRITE_DF | WRITE_PF, 3) => c.bytes.push(0),
+        (18..=23 | READ_DF | READ_PF | READ_DZ, 3) => c.bytes.truncate(c.bytes.len() - 1),
+        (13..=17 | WRITE_DF | WRITE_PF | WRITE_DZ, 3) => c.bytes.push(0),
         (_, 3) => c.words.last_mut().unwrap().push(0),
         (15 | 17 | WRITE_PF, 4) => c.numbers[7] = s.p,
         (18 | 19, 4) => put(&mut c.bytes, 5, s.p),
-        (20, 4) => put(&mut c.bytes, 3, s.p),
+        (20 | READ_DZ, 4) => put(&mut c.bytes, 3, s.p),
         (21 | 23 | READ_PF, 4) => put(&mut c.bytes, 4, s.p),
         (READ_DF, 4) => put(&mut c.bytes, 3 + 2 * s.d(), s.p),
         (DEAL_MAPPED..=JUDGE_MAPPED, 4) => c.words[3][0] = s.p,
         (WRITE_DF, 4) => c.words[2][0] = s.p,
+        (DEAL_ZERO..=JUDGE_ZERO | WRITE_DZ, 4) => c.words[1][0] = s.p,
+        (REFRESH, 4) => c.numbers[6] = s.p,
         (7, 4) => c.words.iter_mut().take(1).for_each(|x| x.push(65535)),
         (_, 4) => c.words[0][0] = 65535,
-        (1 | 3 | DEAL_MAPPED, 5) => c.numbers[4] = s.n,
+        (1 | 3 | DEAL_MAPPED | DEAL_ZERO, 5) => c.numbers[4] = s.n,
         (8, 5) => c.numbers[6] = s.l,
         (9..=11, 5) => {
             c.numbers[5] |= 0x8000;
@@ -576,10 +585,10 @@ fn fault(c: &mut Case, number: u16) {
                 c.words[1].push(0);
             }
         }
-        (14 | 16 | WRITE_DF, 5) => c.numbers[5] = s.n,
+        (14 | 16 | WRITE_DF | WRITE_DZ, 5) => c.numbers[5] = s.n,
         (15 | WRITE_PF, 5) => c.numbers[6] = s.n,
         (17, 5) => c.numbers[6] = s.l,
-        (20 | 22 | READ_DF, 5) => put(&mut c.bytes, 2, s.n),
+        (20 | 22 | READ_DF | READ_DZ, 5) => put(&mut c.bytes, 2, s.n),
         (21 | READ_PF, 5) => put(&mut c.bytes, 3, s.n),
         (23, 5) => put(&mut c.bytes, 3, s.l),
         (11, 6) => {
@@ -588,19 +597,25 @@ fn fault(c: &mut Case, number: u16) {
         }
         (11, 7) => c.words[1] = vec![0, 0, 1],
         (_, 8) => c.bytes[0] ^= 1,
-        (14..=17 | WRITE_DF | WRITE_PF, 9) => c.numbers[4] = 0,
+        (14..=17 | WRITE_DF | WRITE_PF | WRITE_DZ, 9) => c.numbers[4] = 0,
         (_, 9) => put(&mut c.bytes, 1, 0),
         (5, 12) => c.words[1][0] = 2,
         (16, 12) => c.numbers[6] = 2,
         (22, 12) => put(&mut c.bytes, 3, 2),
         (0, 15) => c.numbers[0] = 2,
+        (REFRESH, 18) => c.numbers[5] = 65535,
         _ => panic!("no such refusal: {} {number}", c.call),
     }
 }
 
+/// The refusals of a call but 19, which is of rounds.
+fn without_rounds(call: u16) -> Vec<u16> {
+    CALLS[call as usize].refusals.iter().copied().filter(|&number| number != 19).collect()
+}
+
 /// Every two refusals of a call together, and all of them.
 pub fn priorities_of(c: &Case, cases: &mut Vec<Case>) {
-    let all = c.of().refusals;
+    let all = without_rounds(c.call);
     for a in 0..all.len() {
         for b in a..all.len() {
             let mut faulty = c.clone();
@@ -631,7 +646,7 @@ fn priorities(r: &mut Random, cases: &mut Vec<Case>) {
 /// Document 01's cases on its example.
 fn worked(r: &mut Random, cases: &mut Vec<Case>) {
     let m = vec![6, 2, 5, 3, 4, 4];
-    let numbers = |x: [u16; 3]| [7, 1, 1, 3, x[0], x[1], x[2], 0];
+    let numbers = |x: [u16; 3]| [7, 1, 1, 3, x[0], x[1], x[2], 0, 0];
     let mut push = |call, x, words| cases.push(Case { call, numbers: numbers(x), words, bytes: vec![] });
     push(0, [0; 3], vec![r.noise(6)]);
     for i in 0..3 {
@@ -653,7 +668,7 @@ fn worked(r: &mut Random, cases: &mut Vec<Case>) {
 /// Holder's files: sound over every field, shuffled, cut at every byte, each record gone, again or last, another one in its place; the largest, and one of
 /// 4,096 bytes.
 fn files(r: &mut Random, cases: &mut Vec<Case>) {
-    let mut push = |file: Vec<u8>| cases.push(Case { call: FILE, numbers: [0; 8], words: vec![], bytes: file });
+    let mut push = |file: Vec<u8>| cases.push(Case { call: FILE, numbers: [0; 9], words: vec![], bytes: file });
     let whole = example();
     let all = bytes(&whole);
     (0..=all.len()).for_each(|k| push(all[..k].to_vec()));
@@ -700,7 +715,7 @@ pub fn contents(r: &mut Random, more: &mut Random, files: &[Vec<u8>]) -> Vec<Cas
         let mut push = |size: usize| {
             // the entries from 18 on are drawn apart: what stood before A7 stays as it is
             let lent = (0..size).map(|at| 1 + if at < 18 || size < CONTENTS { &mut *r } else { &mut *more }.below(65535) as u16).collect();
-            cases.push(Case { call: READ_FILE, numbers: [0; 8], words: vec![lent], bytes: file.clone() });
+            cases.push(Case { call: READ_FILE, numbers: [0; 9], words: vec![lent], bytes: file.clone() });
         };
         push(CONTENTS);
         if k % 12 == 0 {
@@ -743,7 +758,7 @@ fn behind_a_key(r: &mut Random) -> [Vec<u16>; 4] {
 }
 
 /// A key opened by a set, with bytes at all positions.
-fn opening(r: &mut Random, set: u32) -> Case {
+pub fn opening(r: &mut Random, set: u32) -> Case {
     let columns = behind_a_key(r);
     Draw::with(r, BOARD, POINTS).opening(set, &columns)
 }
@@ -763,9 +778,9 @@ fn widen(c: &mut Case, bits: u32) {
 }
 
 /// Sets of 7, of 8 and of 6 members.
-const SEVEN: u32 = 0x84B5;
-const EIGHT: u32 = 0x5555;
-const SIX: u32 = 0x84B4;
+pub const SEVEN: u32 = 0x84B5;
+pub const EIGHT: u32 = 0x5555;
+pub const SIX: u32 = 0x84B4;
 
 /// Keys opened: by sets of every size, with each position at 256, with each share false, with 256 and a false share together, with sets and lengths and
 /// elements at their limits and past them.
@@ -847,7 +862,7 @@ fn opened_keys(r: &mut Random, cases: &mut Vec<Case>) {
         }
     }
     // every two refusals together, and all of them
-    let all = CALLS[OPEN_KEY as usize].refusals;
+    let all = without_rounds(OPEN_KEY);
     for a in 0..all.len() {
         for b in a..all.len() {
             let mut c = opening(r, EIGHT);
@@ -862,7 +877,7 @@ fn opened_keys(r: &mut Random, cases: &mut Vec<Case>) {
 }
 
 /// Makes a refusal apply to the opening of a key.
-fn key_fault(r: &mut Random, c: &mut Case, number: u16) {
+pub fn key_fault(r: &mut Random, c: &mut Case, number: u16) {
     match number {
         3 => c.bytes.push(0),
         4 => c.words[0][9] = 257,

@@ -4,6 +4,7 @@
 use crate::cases::FILE;
 use crate::draw::*;
 use crate::maps;
+use crate::zero_dealings;
 use reference::*;
 
 /// The words of document 01's example.
@@ -108,6 +109,9 @@ pub fn stored() -> (Vec<u8>, String) {
     // those of two dealings tied by a map, from a seed of their own: what stands before them stays as it is
     files.extend(maps::files(&mut Random(20261120)));
 
+    // the same for zero dealings
+    files.extend(zero_dealings::files(&mut Random(20261123)));
+
     let (mut input, mut output) = (vec![], String::new());
     for file in &files {
         input.extend((file.len() as u16).to_le_bytes());
@@ -137,6 +141,16 @@ fn mapped_with_words(r: &mut Random, s: Params, words: &str) -> Vec<u8> {
     }
 }
 
+/// The same of a zero dealing.
+fn zero_with_words(r: &mut Random, s: Params, words: &str) -> Vec<u8> {
+    loop {
+        let file = Draw::with(r, s, POINTS).zero_file();
+        if holder(&file).contains(words) {
+            return file;
+        }
+    }
+}
+
 /// Files for the program `holder`, by name: what is read from standard input and what is printed. The program reads 4,096 bytes and no more.
 pub fn for_the_program() -> Vec<(&'static str, Vec<u8>, String)> {
     let mut r = Random(20140903);
@@ -148,11 +162,17 @@ pub fn for_the_program() -> Vec<(&'static str, Vec<u8>, String)> {
     order[20] = 1; // the first PV from holder 1
     let long = [&largest[..], &vec![0; 5000 - largest.len()]].concat();
     let (pieces, rejected) = (with_words(&mut r, key, "outcome kept"), with_words(&mut r, key, "verdict reject"));
+    let mut r = Random(20261124);
+    let largest_zero = zero_with_words(&mut r, Params { p: 65521, l: 8, e: 8, n: 32 }, "outcome kept");
+    let (zero, zero_rejected) = (zero_with_words(&mut r, key, "outcome kept"), zero_with_words(&mut r, key, "verdict reject"));
+    // a DZ behind the example's DL, in the place of its first PV
+    let zero_refused = bytes(&[&example()[..18], &[DZ, 1, 1, 2, 4, 3], &example()[18..]].concat());
     let mut r = Random(20261121);
     let files = [
         ("empty", vec![]),
         ("largest", largest),
         ("largest_mapped", mapped_with_words(&mut r, Params { p: 65521, l: 8, e: 8, n: 32 }, "mapped 7")),
+        ("largest_zero", largest_zero),
         ("long", long),
         ("mapped", mapped_with_words(&mut r, key, "mapped 3")),
         ("order", bytes(&order)),
@@ -160,6 +180,9 @@ pub fn for_the_program() -> Vec<(&'static str, Vec<u8>, String)> {
         ("refused", bytes(&again)),
         ("reject_map", mapped_with_words(&mut r, key, "verdict reject map")),
         ("rejected", rejected),
+        ("zero", zero),
+        ("zero_refused", zero_refused),
+        ("zero_rejected", zero_rejected),
     ];
     files.map(|(name, file)| (name, file.clone(), holder(&file[..file.len().min(4096)]))).into()
 }

@@ -6,6 +6,8 @@ mod draw;
 mod edges;
 mod files;
 mod maps;
+mod rounds;
+mod zero_dealings;
 use cases::*;
 use draw::*;
 use std::collections::BTreeMap;
@@ -62,6 +64,20 @@ fn stored() -> (Vec<u8>, String) {
             all.push(small(&mut r, round, |r| draw(r, call)));
         }
         all.push(small(&mut r, round, with_second));
+    }
+    // so far without rounds: each case gets one, from a seed of its own
+    let mut r = Random(20261122);
+    all = all.into_iter().map(|c| with_rounds(c, |count| vec![r.round(); count])).collect();
+    // rounds that differ, and zero dealings
+    let mut r = Random(20261123);
+    all.extend(rounds::cases(&mut r));
+    all.extend(zero_dealings::cases(&mut r));
+    for round in 0..12 {
+        for call in [7, 11, 17, 23, OPEN_KEY].into_iter().chain(ZEROS) {
+            let c = small(&mut r, round, |r| draw(r, call));
+            all.push(rounded(&mut r, c));
+        }
+        all.push(small(&mut r, round, with_zeros));
     }
     let (mut input, mut output) = (vec![], String::new());
     let mut counts = vec![BTreeMap::new(); CALLS.len()];

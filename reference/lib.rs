@@ -1,4 +1,4 @@
-//! Document 01, with the requests of document 02 that have landed (A1 to A7), in plain safe Rust: every call and the holder's file, written from the
+//! Document 01, with the requests of document 02 that have landed (A1 to A8), in plain safe Rust: every call and the holder's file, written from the
 //! documents in the most direct way. It shares nothing with the proved library; the two are compared on many inputs.
 
 /// A refusal's number (0: none) and the values given beside it.
@@ -46,7 +46,7 @@ impl Params {
     }
 }
 
-/// The refusals that apply; the lowest is given.
+/// The refusals that apply; the lowest is given, but 18 and 19 come after 5 and before 6.
 struct Faults(Vec<u16>);
 
 impl Faults {
@@ -64,8 +64,12 @@ impl Faults {
     fn elements(&mut self, p: u16, xs: &[u16]) {
         self.when(4, xs.iter().any(|&x| x >= p));
     }
+    /// Shares of different rounds.
+    fn rounds(&mut self, rounds: &[u16]) {
+        self.when(19, rounds.iter().any(|round| round != &rounds[0]));
+    }
     fn lowest(&self) -> Option<u16> {
-        self.0.iter().copied().min()
+        self.0.iter().copied().min_by_key(|&number| if number == 18 || number == 19 { (5, number) } else { (number, 0) })
     }
     fn check(&self) -> Result<(), u16> {
         self.lowest().map_or(Ok(()), Err)
@@ -274,6 +278,57 @@ pub fn deal_mapped_all(s: Params, m: &[u16], from: Mapped, mut parts: Parts) -> 
     given(&[])
 }
 
+/// F of a zero dealing by rows: ℓ rows of zeros, then e lent rows.
+fn dealt_zero(s: &Params, random: &[u16]) -> Vec<Vec<u16>> {
+    let mut all = vec![vec![0; s.d()]; s.l as usize];
+    all.extend(random.chunks(s.d()).map(|r| r.to_vec()));
+    all
+}
+
+/// Holder i's h of a zero dealing: the last e entries, those of the lent rows.
+fn part_zero_h(s: &Params, m: &[u16], f: &[Vec<u16>], i: usize) -> Vec<u16> {
+    part_h(s, m, &f[s.l as usize..], i)
+}
+
+fn deal_zero_faults(s: &Params, m: &[u16], random: &[u16]) -> Faults {
+    let mut f = Faults::of(s);
+    f.length(m, s.entries());
+    f.length(random, s.e as usize * s.d());
+    f.elements(s.p, m);
+    f.elements(s.p, random);
+    f
+}
+
+pub fn deal_zero(s: Params, m: &[u16], random: &[u16], holder: u16, g: &mut [u16], h: &mut [u16]) -> Answer {
+    let mut f = deal_zero_faults(&s, m, random);
+    f.length(g, s.d());
+    f.length(h, s.e as usize);
+    f.when(5, holder >= s.n);
+    if let Some(k) = f.lowest() {
+        return refused(k);
+    }
+    let all = dealt_zero(&s, random);
+    h.copy_from_slice(&part_zero_h(&s, m, &all, holder as usize));
+    g.copy_from_slice(&part_g(&s, m, &all, holder as usize));
+    given(&[])
+}
+
+pub fn deal_zero_all(s: Params, m: &[u16], random: &[u16], gs: &mut [u16], hs: &mut [u16]) -> Answer {
+    let (d, e) = (s.d(), s.e as usize);
+    let mut f = deal_zero_faults(&s, m, random);
+    f.length(gs, s.entries());
+    f.length(hs, s.n as usize * e);
+    if let Some(k) = f.lowest() {
+        return refused(k);
+    }
+    let all = dealt_zero(&s, random);
+    for i in 0..s.n as usize {
+        hs[i * e..(i + 1) * e].copy_from_slice(&part_zero_h(&s, m, &all, i));
+        gs[i * d..(i + 1) * d].copy_from_slice(&part_g(&s, m, &all, i));
+    }
+    given(&[])
+}
+
 fn value_for(s: &Params, m: &[u16], g: &[u16], i: usize) -> u16 {
     dot(s.p, g.iter().copied(), row(s, m, i).iter().copied())
 }
@@ -359,6 +414,28 @@ pub fn judge_mapped(s: Params, m: &[u16], h: &[u16], values: &[u16], second: Sec
     }
 }
 
+/// None accepts; Some(j) rejects and names the lowest j whose value is not the last e entries of its row times h.
+fn judgement_zero(s: &Params, m: &[u16], h: &[u16], values: &[u16]) -> Option<u16> {
+    (0..s.n).find(|&j| {
+        let last = &row(s, m, j as usize)[s.l as usize..];
+        values[j as usize] != dot(s.p, last.iter().copied(), h.iter().copied())
+    })
+}
+
+pub fn judge_zero(s: Params, m: &[u16], h: &[u16], values: &[u16]) -> Answer {
+    let mut f = Faults::of(&s);
+    f.length(m, s.entries());
+    f.length(h, s.e as usize);
+    f.length(values, s.n as usize);
+    for xs in [m, h, values] {
+        f.elements(s.p, xs);
+    }
+    match f.lowest() {
+        Some(k) => refused(k),
+        None => named(judgement_zero(&s, m, h, values)),
+    }
+}
+
 pub fn outcome(s: Params, g: &[u16], verdicts: &[u16], shares: &mut [u16]) -> Answer {
     let mut f = Faults::of(&s);
     f.length(g, s.d());
@@ -397,16 +474,31 @@ pub fn rehearse(s: Params, m: &[u16], gs: &[u16], hs: &[u16]) -> Answer {
     given(&[1])
 }
 
-pub fn combine(p: u16, constants: &[u16], shares: &[u16]) -> Answer {
+/// The share of a combination and its round, that of its shares; the empty one has round 0.
+pub fn combine(p: u16, constants: &[u16], shares: &[u16], rounds: &[u16]) -> Answer {
     let mut f = Faults(vec![]);
     f.when(1, !PRIMES.contains(&p));
     f.length(shares, constants.len());
-    f.when(3, constants.len() > 64 || shares.len() > 64);
+    f.length(rounds, constants.len());
+    f.when(3, constants.len() > 64);
     f.elements(p, constants);
     f.elements(p, shares);
+    f.rounds(rounds);
     match f.lowest() {
         Some(k) => refused(k),
-        None => given(&[dot(p, constants.iter().copied(), shares.iter().copied())]),
+        None => given(&[dot(p, constants.iter().copied(), shares.iter().copied()), rounds.first().copied().unwrap_or(0)]),
+    }
+}
+
+/// A share and a zero share of the same column as one share of the next round.
+pub fn refresh(p: u16, share: u16, round: u16, zero: u16) -> Answer {
+    let mut f = Faults(vec![]);
+    f.when(1, !PRIMES.contains(&p));
+    f.elements(p, &[share, zero]);
+    f.when(18, round == 65535);
+    match f.lowest() {
+        Some(k) => refused(k),
+        None => given(&[plus(p, share, zero), round + 1]),
     }
 }
 
@@ -564,11 +656,13 @@ pub fn private(s: Params, m: &[u16], set: u32) -> Answer {
     }
 }
 
-pub fn open(s: Params, m: &[u16], set: u32, shares: &[u16], secrets: &mut [u16]) -> Answer {
+pub fn open(s: Params, m: &[u16], set: u32, shares: &[u16], rounds: &[u16], secrets: &mut [u16]) -> Answer {
     let mut f = set_faults(&s, m, set);
     f.length(shares, set.count_ones() as usize);
+    f.length(rounds, set.count_ones() as usize);
     f.length(secrets, s.l as usize);
     f.elements(s.p, shares);
+    f.rounds(rounds);
     if let Some(k) = f.lowest() {
         return refused(k);
     }
@@ -604,19 +698,22 @@ pub fn deal_key(key: &[u8], random: &[u16], gs: &mut [u16], hs: &mut [u16]) -> A
     deal_all(BOARD, &board_matrix(), &secrets, random, gs, hs)
 }
 
-/// Four openings, of the set's shares of column 0, then of 1, 2 and 3. A position of 256 is no byte: 16, where all four open.
-pub fn open_key(set: u32, shares: &[u16], key: &mut [u8]) -> Answer {
+/// Four openings, of the set's shares of column 0, then of 1, 2 and 3, each with its rounds. A position of 256 is no byte: 16, where all four open.
+pub fn open_key(set: u32, shares: &[u16], rounds: &[u16], key: &mut [u8]) -> Answer {
     let (m, count) = (board_matrix(), set.count_ones() as usize);
     let mut f = set_faults(&BOARD, &m, set);
     f.length(shares, 4 * count);
+    f.length(rounds, 4 * count);
     f.length(key, KEY);
     f.elements(BOARD.p, shares);
+    rounds.chunks(count.max(1)).for_each(|column| f.rounds(column));
     if let Some(k) = f.lowest() {
         return refused(k);
     }
     let mut opened = [0; KEY];
     for b in 0..4 {
-        let answer = open(BOARD, &m, set, &shares[b * count..(b + 1) * count], &mut opened[4 * b..4 * b + 4]);
+        let column = b * count..(b + 1) * count;
+        let answer = open(BOARD, &m, set, &shares[column.clone()], &rounds[column], &mut opened[4 * b..4 * b + 4]);
         if answer.number != 0 {
             return answer;
         }
@@ -639,6 +736,7 @@ pub const VD: u16 = 0x4456;
 pub const SH: u16 = 0x4853;
 pub const DF: u16 = 0x4644;
 pub const PF: u16 = 0x4650;
+pub const DZ: u16 = 0x5A44;
 
 /// Words as bytes, low byte first.
 pub fn bytes(words: &[u16]) -> Vec<u8> {
@@ -674,7 +772,8 @@ fn verdict_faults(s: &Params, [dealing, holder, verdict]: [u16; 3]) -> Faults {
     f
 }
 
-fn share_faults(s: &Params, [dealing, holder, column, value]: [u16; 4]) -> Faults {
+/// Any round has its place.
+fn share_faults(s: &Params, [dealing, holder, column, value, _]: [u16; 5]) -> Faults {
     let mut f = Faults(vec![]);
     f.elements(s.p, &[value]);
     f.when(5, holder >= s.n || column >= s.l || dealing == 0 && column != 0);
@@ -718,6 +817,14 @@ pub fn write_mapped_dealing(s: Params, dealing: u16, holder: u16, [g, h, phi]: [
     write(s, &[&[DF, dealing, holder], g, h, phi].concat(), f, out)
 }
 
+/// DZ: a holder's part of a zero dealing.
+pub fn write_zero_dealing(s: Params, dealing: u16, holder: u16, g: &[u16], h: &[u16], out: &mut [u8]) -> Answer {
+    let mut f = dealing_faults(&s, dealing, holder, g, h);
+    f.length(g, s.d());
+    f.length(h, s.e as usize);
+    write(s, &[&[DZ, dealing, holder], g, h].concat(), f, out)
+}
+
 /// PV: the value that one holder sends another.
 pub fn write_pair_value(s: Params, dealing: u16, from: u16, to: u16, value: u16, out: &mut [u8]) -> Answer {
     write(s, &[PV, dealing, from, to, value], pair_faults(&s, [dealing, from, to, value]), out)
@@ -733,9 +840,9 @@ pub fn write_verdict(s: Params, dealing: u16, holder: u16, verdict: u16, out: &m
     write(s, &[VD, dealing, holder, verdict], verdict_faults(&s, [dealing, holder, verdict]), out)
 }
 
-/// SH: a holder's share of a column, or of a combination under the dealing number 0.
-pub fn write_share(s: Params, dealing: u16, holder: u16, column: u16, value: u16, out: &mut [u8]) -> Answer {
-    write(s, &[SH, dealing, holder, column, value], share_faults(&s, [dealing, holder, column, value]), out)
+/// SH: a holder's share of a column, or of a combination under the dealing number 0, and its round.
+pub fn write_share(s: Params, fields: [u16; 5], out: &mut [u8]) -> Answer {
+    write(s, &[&[SH], &fields[..]].concat(), share_faults(&s, fields), out)
 }
 
 /// The mark that a part starts with.
@@ -776,9 +883,9 @@ fn setup_record(part: &[u8]) -> Result<(Params, Vec<u16>), u16> {
     if m.iter().any(|&x| x >= s.p) { Err(4) } else { Ok((s, m)) }
 }
 
-/// Dealing number, holder, g and h of a DL whose mark was seen.
-fn dealing_fields(s: &Params, part: &[u8]) -> Result<(u16, u16, Vec<u16>, Vec<u16>), u16> {
-    let mut g = words(part, 3 + 2 * s.d())?;
+/// Dealing number, holder, g and h of a DL, whose h has d entries, or of a DZ, whose h has e; the mark was seen.
+fn dealing_fields(s: &Params, part: &[u8], entries: usize) -> Result<(u16, u16, Vec<u16>, Vec<u16>), u16> {
+    let mut g = words(part, 3 + s.d() + entries)?;
     let h = g.split_off(3 + s.d());
     let (dealing, holder) = (g[1], g[2]);
     g.drain(..3);
@@ -826,17 +933,27 @@ fn read(lent: Faults, part: &[u8], wanted: u16, rest: impl FnOnce() -> Result<Ve
     answer(lent.check().and_then(|()| expect(part, wanted)).and_then(|()| rest()))
 }
 
-/// The dealing number and holder of a DL, with its g and h.
-pub fn read_dealing(s: Params, part: &[u8], g: &mut [u16], h: &mut [u16]) -> Answer {
+/// A DL or a DZ, whose h has so many entries.
+fn read_part(s: Params, part: &[u8], wanted: u16, entries: usize, g: &mut [u16], h: &mut [u16]) -> Answer {
     let mut lent = Faults::of(&s);
     lent.length(g, s.d());
-    lent.length(h, s.d());
-    read(lent, part, DL, || {
-        let (dealing, holder, row, column) = dealing_fields(&s, part)?;
+    lent.length(h, entries);
+    read(lent, part, wanted, || {
+        let (dealing, holder, row, column) = dealing_fields(&s, part, entries)?;
         g.copy_from_slice(&row);
         h.copy_from_slice(&column);
         Ok(vec![dealing, holder])
     })
+}
+
+/// The dealing number and holder of a DL, with its g and h.
+pub fn read_dealing(s: Params, part: &[u8], g: &mut [u16], h: &mut [u16]) -> Answer {
+    read_part(s, part, DL, s.d(), g, h)
+}
+
+/// The dealing number and holder of a DZ, with its g and h.
+pub fn read_zero_dealing(s: Params, part: &[u8], g: &mut [u16], h: &mut [u16]) -> Answer {
+    read_part(s, part, DZ, s.e as usize, g, h)
 }
 
 /// The dealing number and holder of a DF, with its g, h and φ.
@@ -883,7 +1000,7 @@ pub fn read_verdict(s: Params, part: &[u8]) -> Answer {
     })
 }
 
-/// The four fields of an SH.
+/// The five fields of an SH.
 pub fn read_share(s: Params, part: &[u8]) -> Answer {
     read(Faults::of(&s), part, SH, || {
         let x = fields(part)?;
@@ -901,6 +1018,8 @@ struct Holder {
     holder: u16,
     g: Vec<u16>,
     h: Vec<u16>,
+    /// The part is that of a DZ.
+    zero: bool,
     /// The g, h and φ of a DF.
     second: Option<[Vec<u16>; 3]>,
     /// From holder 0 on.
@@ -914,7 +1033,7 @@ struct Holder {
 /// The refusal and the byte where the faulty record starts.
 type Fault = (u16, usize);
 
-/// The mark that a part of a file starts with: one with a place there, or 10 for a second SU, DL or DF, or 8.
+/// The mark that a part of a file starts with: one with a place there, or 10 for a second SU, DL, DF or DZ, or 8.
 fn mark_in_place(part: &[u8], place: &[u16], seen: &[u16]) -> Result<u16, u16> {
     match mark(part)? {
         x if seen.contains(&x) => Err(10),
@@ -929,11 +1048,13 @@ fn first_record(part: &[u8]) -> Result<(Params, Vec<u16>), u16> {
     setup_record(part)
 }
 
-/// The DL of a file: a holder that has received nothing yet.
-fn second_record(s: Params, m: Vec<u16>, part: &[u8]) -> Result<Holder, u16> {
-    mark_in_place(part, &[DL], &[SU])?;
-    let (dealing, holder, g, h) = dealing_fields(&s, part)?;
-    Ok(Holder { s, m, dealing, holder, g, h, second: None, values: vec![], values2: vec![], verdicts: vec![] })
+/// The DL or DZ of a file: a holder that has received nothing yet, and the record's size.
+fn second_record(s: Params, m: Vec<u16>, part: &[u8]) -> Result<(Holder, usize), u16> {
+    let zero = mark_in_place(part, &[DL, DZ], &[SU])? == DZ;
+    let entries = if zero { s.e as usize } else { s.d() };
+    let (dealing, holder, g, h) = dealing_fields(&s, part, entries)?;
+    let x = Holder { s, m, dealing, holder, g, h, zero, second: None, values: vec![], values2: vec![], verdicts: vec![] };
+    Ok((x, 6 + 2 * s.d() + 2 * entries))
 }
 
 /// Takes in the DF of a file, whose mark was seen, and gives its size.
@@ -949,7 +1070,11 @@ fn second_dealing(x: &mut Holder, part: &[u8]) -> Result<usize, u16> {
 /// Takes in a PV, PF or VD and gives its size. They come in one order, the PV by sender, with a DF the PF by sender, then the VD by holder: one before the
 /// next that is due is there twice, one behind it comes too early.
 fn later_record(x: &mut Holder, part: &[u8]) -> Result<usize, u16> {
-    let (place, seen): (&[u16], &[u16]) = if x.second.is_some() { (&[PV, PF, VD], &[SU, DL, DF]) } else { (&[PV, VD], &[SU, DL]) };
+    let (place, seen): (&[u16], &[u16]) = match x.second {
+        Some(_) => (&[PV, PF, VD], &[SU, DL, DF]),
+        None if x.zero => (&[PV, VD], &[SU, DZ]),
+        None => (&[PV, VD], &[SU, DL]),
+    };
     let mark = mark_in_place(part, place, seen)?;
     let n = x.s.n as usize;
     let due = x.values.len() + x.values2.len() + x.verdicts.len();
@@ -987,9 +1112,9 @@ fn read_records(file: &[u8]) -> Result<Holder, Fault> {
     if at == file.len() {
         return Err(missing);
     }
-    let mut x = second_record(s, m, &file[at..]).map_err(|k| (k, at))?;
-    at += 6 + 4 * s.d();
-    if mark(&file[at..]) == Ok(DF) {
+    let (mut x, size) = second_record(s, m, &file[at..]).map_err(|k| (k, at))?;
+    at += size;
+    if !x.zero && mark(&file[at..]) == Ok(DF) {
         at += second_dealing(&mut x, &file[at..]).map_err(|k| (k, at))?;
     }
     while at < file.len() {
@@ -1010,12 +1135,15 @@ struct Contents {
     shares: Vec<u16>,
     /// With a DF, the shares of the second dealing.
     mapped: Option<Vec<u16>>,
+    /// It has a DZ.
+    zero: bool,
 }
 
 /// Reads a file to its end, and judges.
 fn contents_of(file: &[u8]) -> Result<Contents, Fault> {
     let x = read_records(file)?;
     let rejected = match &x.second {
+        None if x.zero => judgement_zero(&x.s, &x.m, &x.h, &x.values),
         None => judgement(&x.s, &x.m, &x.h, &x.values),
         Some([_, h, phi]) => judgement_mapped(&x.s, &x.m, &x.h, &x.values, Second { phi, h, values: &x.values2 }),
     };
@@ -1025,7 +1153,7 @@ fn contents_of(file: &[u8]) -> Result<Contents, Fault> {
     let aborted = x.verdicts.iter().position(|&v| v == 0).map(|i| i as u16);
     let kept = |g: &[u16]| if aborted.is_none() { g[..x.s.l as usize].to_vec() } else { vec![] };
     let mapped = x.second.as_ref().map(|[g, ..]| kept(g));
-    Ok(Contents { s: x.s, dealing: x.dealing, holder: x.holder, rejected, aborted, shares: kept(&x.g), mapped })
+    Ok(Contents { s: x.s, dealing: x.dealing, holder: x.holder, rejected, aborted, shares: kept(&x.g), mapped, zero: x.zero })
 }
 
 /// What the holder program prints of a file's contents.
@@ -1080,6 +1208,7 @@ pub fn read_file(file: &[u8], contents: &mut [u16]) -> Answer {
             contents[6..8].copy_from_slice(&named(c.rejected));
             contents[8..10].copy_from_slice(&named(c.aborted));
             contents[10..10 + c.shares.len()].copy_from_slice(&c.shares);
+            contents[18] = if c.zero { 2 } else { 0 };
             if let Some(mapped) = c.mapped {
                 contents[18] = 1;
                 contents[19..19 + mapped.len()].copy_from_slice(&mapped);

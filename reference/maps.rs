@@ -117,7 +117,7 @@ fn turned(p: u16) -> [Vec<u16>; 2] {
 }
 
 /// The next element in place k.
-fn next(p: u16, xs: &mut [u16], k: usize) {
+pub fn next(p: u16, xs: &mut [u16], k: usize) {
     xs[k] = (xs[k] + 1) % p;
 }
 
@@ -177,7 +177,7 @@ fn maps(r: &mut Random, cases: &mut Vec<Case>) {
             for (call, holder, size) in [(DEAL_MAPPED_ALL, 0, s.entries()), (DEAL_MAPPED, 2, s.d())] {
                 let mut words = dealing.from.clone();
                 words.extend((0..4).map(|_| r.noise(size)));
-                cases.push(Case { call, numbers: [p, 2, 2, 3, holder, 0, 0, 0], words, bytes: vec![] });
+                cases.push(Case { call, numbers: [p, 2, 2, 3, holder, 0, 0, 0, 0], words, bytes: vec![] });
             }
             cases.push(x.case(s));
             x.judged[3] = under.clone();
@@ -194,7 +194,7 @@ fn kept(draw: &Draw, s: Params, x: &Received) -> Vec<Vec<u16>> {
 }
 
 /// The file by records that the ones below change: p 7, ℓ 2, e 1, n holders, of the last holder but one or of the only one.
-fn whole(r: &mut Random, n: u16) -> Vec<Vec<u16>> {
+pub fn whole(r: &mut Random, n: u16) -> Vec<Vec<u16>> {
     let s = params(7, 2, 1, n);
     let mut draw = Draw::with(r, s, POINTS);
     let dealing = draw.mapped(&turned(7)[0]);
@@ -228,7 +228,7 @@ fn sound_files(r: &mut Random) -> Vec<Vec<Vec<u16>>> {
 }
 
 /// A record at each place of a file: put in, the last time behind all, and in the place of the one that stands there.
-fn at_each_place(file: &[Vec<u16>], record: &[u16]) -> Vec<Vec<Vec<u16>>> {
+pub fn at_each_place(file: &[Vec<u16>], record: &[u16]) -> Vec<Vec<Vec<u16>>> {
     let mut files = vec![];
     for at in 0..=file.len() {
         let mut more = file.to_vec();
@@ -325,11 +325,11 @@ pub fn files(r: &mut Random) -> Vec<Vec<u8>> {
 fn some_files(r: &mut Random, cases: &mut Vec<Case>) {
     let files = files(r);
     for (k, file) in files.iter().enumerate().filter(|(k, _)| k % 8 == 0) {
-        cases.push(Case { call: FILE, numbers: [0; 8], words: vec![], bytes: file.clone() });
+        cases.push(Case { call: FILE, numbers: [0; 9], words: vec![], bytes: file.clone() });
         let size = if k % 80 == 0 { [18, 26, 28][k / 80 % 3] } else { CONTENTS };
         for size in distinct(vec![size, CONTENTS]) {
             let lent = (0..size).map(|_| 1 + r.below(65535) as u16).collect();
-            cases.push(Case { call: READ_FILE, numbers: [0; 8], words: vec![lent], bytes: file.clone() });
+            cases.push(Case { call: READ_FILE, numbers: [0; 9], words: vec![lent], bytes: file.clone() });
         }
     }
 }

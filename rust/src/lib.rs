@@ -17,6 +17,11 @@
 //! Two keys may be tied by a public map, an ℓ by ℓ matrix φ: [`Setup::deal_mapped_all`] deals both, and [`Setup::judge_mapped`] also checks the map. Where
 //! holders who follow the rules have kept both, a column that opens in both opens to a secret and to φ times it, though the dealer lied.
 //!
+//! A copied drawer becomes worthless when its shares are refreshed: a zero dealing ([`Setup::deal_zero_all`]), whose columns all open to zeros, is dealt and
+//! judged, and every holder adds its shares to those of one dealing, column by column ([`refresh`]). The secrets stay, the shares are at the next round, and
+//! shares of different rounds are refused together. Each dealing takes a zero dealing of its own. A new dealing's shares have the round that its holders agree
+//! on, 0 if they start anew.
+//!
 //! A board key is sixteen bytes over one fixed setup, [`BOARD`]: [`deal_key`] and [`open_key`] take and give it as a [`Key`].
 //!
 //! Types that carry keys, shares or pair values have no `Debug` and are not `Copy`, so that they are not printed or copied in passing. Nothing is wiped:
@@ -26,7 +31,7 @@
 //! and positions count from 0. A set of holders is a number whose bit i stands for holder i.
 //!
 //! ```
-//! use mavdrusek::{Judgement, Outcome, Refusal, Setup, Verdict};
+//! use mavdrusek::{Judgement, Outcome, Refusal, Setup, Shares, Verdict};
 //!
 //! // Three holders, one secret, one random number: any two holders bring the secret back.
 //! let setup = Setup { p: 7, l: 1, e: 1, n: 3 };
@@ -46,11 +51,11 @@
 //! let mut share = [0];
 //! assert_eq!(setup.outcome(&gs[2..4], &[Verdict::Accept; 3], &mut share)?, Outcome::Kept);
 //!
-//! // Holders 0 and 2 open; holder 0 alone cannot.
+//! // Holders 0 and 2 open; holder 0 alone cannot. Their shares are at round 0, as the holders agreed.
 //! let mut secret = [0];
-//! setup.open(&matrix, 0b101, &[gs[0], gs[4]], &mut secret)?;
+//! setup.open(&matrix, 0b101, &Shares { values: &[gs[0], gs[4]], rounds: &[0, 0] }, &mut secret)?;
 //! assert_eq!(secret, [3]);
-//! let alone = setup.open(&matrix, 0b001, &[gs[0]], &mut secret);
+//! let alone = setup.open(&matrix, 0b001, &Shares { values: &[gs[0]], rounds: &[0] }, &mut secret);
 //! assert_eq!(alone, Err(Refusal::Undetermined { position: 0 }));
 //! # Ok::<(), Refusal>(())
 //! ```
@@ -73,7 +78,7 @@ pub const PAIR_VALUE_BYTES: usize = 10;
 /// Bytes of a VD record.
 pub const VERDICT_BYTES: usize = 8;
 /// Bytes of an SH record.
-pub const SHARE_BYTES: usize = 10;
+pub const SHARE_BYTES: usize = 12;
 /// The most bytes of a holder's file.
 pub const MOST_FILE_BYTES: usize = 4096;
 /// The setup of every board key. Its matrix is the points matrix.
@@ -81,8 +86,8 @@ pub const BOARD: Setup = Setup { p: 257, l: 4, e: 3, n: 16 };
 /// Bytes of a board key.
 pub const KEY_BYTES: usize = 16;
 
-/// Why a call declined. Where more than one applies, a call gives the one with the lowest number; a reader judges the setup it is given, then
-/// the mark, then the length, then the rest. Number 14 is retired: no call gives it, and it has no case here.
+/// Why a call declined. Where more than one applies, a call gives the one with the lowest number, but 18 and 19 come after 5 and before 6; a reader judges
+/// the setup it is given, then the mark, then the length, then the rest. Number 14 is retired: no call gives it, and it has no case here.
 #[derive(Clone, Copy, Debug, PartialEq, Eq, Hash)]
 pub enum Refusal {
     /// 1: p is none of the five primes.
@@ -107,7 +112,7 @@ pub enum Refusal {
     Mark,
     /// 9: dealing number 0 outside SH, or another one than the file's.
     DealingNumber,
-    /// 10: in a file a second SU, DL or DF, or a second PV, PF or VD from one holder.
+    /// 10: in a file a second SU, DL, DF or DZ, or a second PV, PF or VD from one holder.
     Repeated,
     /// 11: a file ends with a record missing.
     Missing,
@@ -121,6 +126,10 @@ pub enum Refusal {
     NoByte,
     /// 17: in a file a PV, PF or VD that is not the next one due: the PV come by rising sender, with a DF then the PF, then the VD by rising holder.
     Order,
+    /// 18: a refresh of a share at round 65535, which is the last.
+    LastRound,
+    /// 19: shares combined or opened together whose rounds differ, in a board key those of one column.
+    Rounds,
 }
 
 impl Refusal {
@@ -143,6 +152,8 @@ impl Refusal {
             Refusal::TooFewPoints => 15,
             Refusal::NoByte => 16,
             Refusal::Order => 17,
+            Refusal::LastRound => 18,
+            Refusal::Rounds => 19,
         }
     }
 }
@@ -166,6 +177,8 @@ impl fmt::Display for Refusal {
             Refusal::TooFewPoints => "the field has fewer than d + n elements",
             Refusal::NoByte => "an opened position is 256 and so no byte",
             Refusal::Order => "a record is not the next one due",
+            Refusal::LastRound => "round 65535 is the last",
+            Refusal::Rounds => "the rounds of the shares differ",
         };
         write!(f, "refused {}: {why}", self.number())
     }
@@ -193,6 +206,8 @@ fn answer(number: u16, position: u16) -> Result<(), Refusal> {
         15 => Refusal::TooFewPoints,
         16 => Refusal::NoByte,
         17 => Refusal::Order,
+        18 => Refusal::LastRound,
+        19 => Refusal::Rounds,
         other => unreachable!("the linked library gave {other}, which no call gives"),
     })
 }
@@ -305,7 +320,24 @@ pub struct MappedParts<'a> {
     pub h2: &'a mut [u16],
 }
 
-/// The numbers of a DL or DF record; g and h, and for DF φ, stand beside it in slices.
+/// A share of a column or of a combination, with its round. It has no `Debug`.
+#[derive(Clone, PartialEq, Eq)]
+pub struct Share {
+    /// The share.
+    pub value: u16,
+    /// Its round, 0 to 65535.
+    pub round: u16,
+}
+
+/// Shares that are lent together, each with its round. It has no `Debug` and is not `Copy`.
+pub struct Shares<'a> {
+    /// The shares.
+    pub values: &'a [u16],
+    /// Their rounds, as many and in the same order.
+    pub rounds: &'a [u16],
+}
+
+/// The numbers of a DL, DF or DZ record; g and h, and for DF φ, stand beside it in slices.
 #[derive(Clone, Copy, Debug, PartialEq, Eq, Hash)]
 pub struct DealingRecord {
     /// Dealing number, from 1.
@@ -349,6 +381,8 @@ pub struct ShareRecord {
     pub column: u16,
     /// The share.
     pub value: u16,
+    /// Its round, 0 to 65535.
+    pub round: u16,
 }
 
 /// The four numbers of a setup. Any numbers may stand here; a call refuses those beyond the limits.
@@ -366,7 +400,7 @@ pub struct Setup {
 
 /// Lengths of slices.
 impl Setup {
-    /// d = ℓ + e, the length of a row of the matrix, of g and of h.
+    /// d = ℓ + e, the length of a row of the matrix, of g and of h; the h of a zero dealing has e entries.
     pub fn d(&self) -> usize {
         self.l as usize + self.e as usize
     }
@@ -391,6 +425,16 @@ impl Setup {
         self.e as usize * self.d()
     }
 
+    /// e · d, the random entries of a zero dealing.
+    pub fn zero_random(&self) -> usize {
+        self.e as usize * self.d()
+    }
+
+    /// n · e, the length of all column parts of a zero dealing together.
+    pub fn zero_columns(&self) -> usize {
+        self.n as usize * self.e as usize
+    }
+
     /// Bytes of an SU record.
     pub fn setup_bytes(&self) -> usize {
         10 + 2 * self.entries()
@@ -404,6 +448,11 @@ impl Setup {
     /// Bytes of a DF record.
     pub fn mapped_dealing_bytes(&self) -> usize {
         self.dealing_bytes() + 2 * self.secrets()
+    }
+
+    /// Bytes of a DZ record.
+    pub fn zero_dealing_bytes(&self) -> usize {
+        6 + 2 * self.d() + 2 * self.e as usize
     }
 }
 
@@ -508,7 +557,7 @@ impl Setup {
     /// Writes every holder's part of both: holder i's at i · d of each slice, n · d entries each. Refusals 1 to 4.
     ///
     /// ```
-    /// use mavdrusek::{Judgement, MappedParts, MappedSecrets, Refusal, Setup};
+    /// use mavdrusek::{Judgement, MappedParts, MappedSecrets, Refusal, Setup, Shares};
     ///
     /// // The second secret is twice the first. A real dealer draws both lists of random entries evenly, from a secure source.
     /// let setup = Setup { p: 7, l: 1, e: 1, n: 3 };
@@ -526,8 +575,8 @@ impl Setup {
     ///
     /// // Holders 0 and 2 open both.
     /// let (mut secret, mut image) = ([0], [0]);
-    /// setup.open(&matrix, 0b101, &[gs[0], gs[4]], &mut secret)?;
-    /// setup.open(&matrix, 0b101, &[gs2[0], gs2[4]], &mut image)?;
+    /// setup.open(&matrix, 0b101, &Shares { values: &[gs[0], gs[4]], rounds: &[0, 0] }, &mut secret)?;
+    /// setup.open(&matrix, 0b101, &Shares { values: &[gs2[0], gs2[4]], rounds: &[0, 0] }, &mut image)?;
     /// assert_eq!((secret, image), ([3], [6]));
     /// # Ok::<(), Refusal>(())
     /// ```
@@ -562,6 +611,111 @@ impl Setup {
             )
         };
         answer(number, 0)
+    }
+}
+
+/// Zero dealings.
+impl Setup {
+    /// Writes one holder's part of a zero dealing, g with d entries and h with e. `random` has e · d elements, which the caller draws evenly from a secure
+    /// source and does not use elsewhere. Pair values and the outcome are those of [`Setup::pair_value`] and [`Setup::outcome`] on g; the judgement is
+    /// [`Setup::judge_zero`]. Refusals 1 to 5.
+    pub fn deal_zero(&self, matrix: &[u16], random: &[u16], holder: u16, g: &mut [u16], h: &mut [u16]) -> Result<(), Refusal> {
+        let Setup { p, l, e, n } = *self;
+        let number = unsafe {
+            raw::mavdrusek_deal_zero(
+                p,
+                l,
+                e,
+                n,
+                matrix.as_ptr(),
+                matrix.len(),
+                random.as_ptr(),
+                random.len(),
+                holder,
+                g.as_mut_ptr(),
+                g.len(),
+                h.as_mut_ptr(),
+                h.len(),
+            )
+        };
+        answer(number, 0)
+    }
+
+    /// Writes every holder's part: holder i's g at i · d of `gs`, n · d entries, and its h at i · e of `hs`, n · e entries. Refusals 1 to 4.
+    ///
+    /// ```
+    /// use mavdrusek::{refresh, Judgement, Refusal, Setup, Share, Shares};
+    ///
+    /// // Three holders of a secret, 3, have the shares 0, 2 and 4 at round 0.
+    /// let (setup, matrix) = (Setup { p: 7, l: 1, e: 1, n: 3 }, [6, 2, 5, 3, 4, 4]);
+    ///
+    /// // A zero dealing. A real dealer draws the random entries evenly, from a secure source.
+    /// let (mut gs, mut hs) = ([0; 6], [0; 3]);
+    /// setup.deal_zero_all(&matrix, &[6, 1], &mut gs, &mut hs)?;
+    /// let values = gs.chunks(setup.d()).map(|g| setup.pair_value(&matrix, g, 1)).collect::<Result<Vec<_>, _>>()?;
+    /// assert_eq!(setup.judge_zero(&matrix, &hs[1..2], &values)?, Judgement::Accept);
+    ///
+    /// // Everyone accepts, and everyone adds its share of column 0.
+    /// let mut fresh = [0; 3];
+    /// for i in 0..3 {
+    ///     let share = refresh(setup.p, &Share { value: [0, 2, 4][i], round: 0 }, gs[2 * i])?;
+    ///     assert_eq!(share.round, 1);
+    ///     fresh[i] = share.value;
+    /// }
+    /// assert_eq!(fresh, [5, 6, 0]);
+    ///
+    /// // They open to the secret as before; an old one among them is refused.
+    /// let mut secret = [0];
+    /// setup.open(&matrix, 0b111, &Shares { values: &fresh, rounds: &[1, 1, 1] }, &mut secret)?;
+    /// assert_eq!(secret, [3]);
+    /// let mixed = setup.open(&matrix, 0b111, &Shares { values: &[0, 6, 0], rounds: &[0, 1, 1] }, &mut secret);
+    /// assert_eq!(mixed, Err(Refusal::Rounds));
+    /// # Ok::<(), Refusal>(())
+    /// ```
+    pub fn deal_zero_all(&self, matrix: &[u16], random: &[u16], gs: &mut [u16], hs: &mut [u16]) -> Result<(), Refusal> {
+        let Setup { p, l, e, n } = *self;
+        let number = unsafe {
+            raw::mavdrusek_deal_zero_all(
+                p,
+                l,
+                e,
+                n,
+                matrix.as_ptr(),
+                matrix.len(),
+                random.as_ptr(),
+                random.len(),
+                gs.as_mut_ptr(),
+                gs.len(),
+                hs.as_mut_ptr(),
+                hs.len(),
+            )
+        };
+        answer(number, 0)
+    }
+
+    /// The judgement of a zero dealing by the holder with column part `h`, e entries, on the n values that it received, by sender: each must be h times the
+    /// last e entries of the sender's row. Refusals 1 to 4.
+    pub fn judge_zero(&self, matrix: &[u16], h: &[u16], values: &[u16]) -> Result<Judgement, Refusal> {
+        let Setup { p, l, e, n } = *self;
+        let (mut verdict, mut named) = (0, 0);
+        let number = unsafe {
+            raw::mavdrusek_judge_zero(
+                p,
+                l,
+                e,
+                n,
+                matrix.as_ptr(),
+                matrix.len(),
+                h.as_ptr(),
+                h.len(),
+                values.as_ptr(),
+                values.len(),
+                &mut verdict,
+                &mut named,
+            )
+        };
+        answer(number, 0)?;
+        Ok(Judgement::new(verdict, named))
     }
 }
 
@@ -761,13 +915,14 @@ impl Setup {
         Ok(SetJudgement { kind, steps })
     }
 
-    /// Opens the set's shares of one column or combination, by rising holder, into ℓ secrets. As many shares are needed as there are ones among all 32
-    /// bits of the set. Refusals 1 to 7.
+    /// Opens the set's shares of one column or combination, by rising holder, into ℓ secrets. As many shares, and rounds, are needed as there are ones among
+    /// all 32 bits of the set, and the rounds must agree. Refusals 1 to 7, 19.
     ///
     /// Where the honest holders among the openers determine the secrets by themselves, the others can only cause a refusal; where they do not, a false
     /// share can open to false secrets.
-    pub fn open(&self, matrix: &[u16], set: u32, shares: &[u16], secrets: &mut [u16]) -> Result<(), Refusal> {
+    pub fn open(&self, matrix: &[u16], set: u32, shares: &Shares, secrets: &mut [u16]) -> Result<(), Refusal> {
         let Setup { p, l, e, n } = *self;
+        let Shares { values, rounds } = *shares;
         let mut position = 0;
         let number = unsafe {
             raw::mavdrusek_open(
@@ -778,8 +933,10 @@ impl Setup {
                 matrix.as_ptr(),
                 matrix.len(),
                 set,
-                shares.as_ptr(),
-                shares.len(),
+                values.as_ptr(),
+                values.len(),
+                rounds.as_ptr(),
+                rounds.len(),
                 secrets.as_mut_ptr(),
                 secrets.len(),
                 &mut position,
@@ -861,6 +1018,28 @@ impl Setup {
         )
     }
 
+    /// Writes a DZ, [`Setup::zero_dealing_bytes`] bytes: a holder's part of a zero dealing, with d entries of g and e of h. Refusals 1 to 5, 9.
+    pub fn write_zero_dealing(&self, record: &DealingRecord, g: &[u16], h: &[u16], out: &mut [u8]) -> Result<(), Refusal> {
+        let Setup { p, l, e, n } = *self;
+        let number = unsafe {
+            raw::mavdrusek_write_zero_dealing(
+                p,
+                l,
+                e,
+                n,
+                record.dealing,
+                record.holder,
+                g.as_ptr(),
+                g.len(),
+                h.as_ptr(),
+                h.len(),
+                out.as_mut_ptr(),
+                out.len(),
+            )
+        };
+        answer(number, 0)
+    }
+
     /// Writes a VD, [`VERDICT_BYTES`] bytes. Refusals 1, 2, 3, 5, 9.
     pub fn write_verdict(&self, record: &VerdictRecord, out: &mut [u8]) -> Result<(), Refusal> {
         let Setup { p, l, e, n } = *self;
@@ -871,8 +1050,8 @@ impl Setup {
     /// Writes an SH, [`SHARE_BYTES`] bytes. Refusals 1 to 5.
     pub fn write_share(&self, record: &ShareRecord, out: &mut [u8]) -> Result<(), Refusal> {
         let Setup { p, l, e, n } = *self;
-        let ShareRecord { dealing, holder, column, value } = *record;
-        answer(unsafe { raw::mavdrusek_write_share(p, l, e, n, dealing, holder, column, value, out.as_mut_ptr(), out.len()) }, 0)
+        let ShareRecord { dealing, holder, column, value, round } = *record;
+        answer(unsafe { raw::mavdrusek_write_share(p, l, e, n, dealing, holder, column, value, round, out.as_mut_ptr(), out.len()) }, 0)
     }
 }
 
@@ -968,6 +1147,30 @@ impl Setup {
         Ok(PairValueRecord { dealing, sender, receiver, value })
     }
 
+    /// Reads a DZ; g has d entries, h has e. Refusals 1 to 5, 8, 9.
+    pub fn read_zero_dealing(&self, part: &[u8], g: &mut [u16], h: &mut [u16]) -> Result<DealingRecord, Refusal> {
+        let Setup { p, l, e, n } = *self;
+        let (mut dealing, mut holder) = (0, 0);
+        let number = unsafe {
+            raw::mavdrusek_read_zero_dealing(
+                p,
+                l,
+                e,
+                n,
+                part.as_ptr(),
+                part.len(),
+                g.as_mut_ptr(),
+                g.len(),
+                h.as_mut_ptr(),
+                h.len(),
+                &mut dealing,
+                &mut holder,
+            )
+        };
+        answer(number, 0)?;
+        Ok(DealingRecord { dealing, holder })
+    }
+
     /// Reads a VD. Refusals 1, 2, 3, 5, 8, 9, 12.
     pub fn read_verdict(&self, part: &[u8]) -> Result<VerdictRecord, Refusal> {
         let Setup { p, l, e, n } = *self;
@@ -978,14 +1181,15 @@ impl Setup {
         Ok(VerdictRecord { dealing, holder, verdict })
     }
 
-    /// Reads an SH. Refusals 1 to 5, 8.
+    /// Reads an SH with its round; one that ends before it is cut short. Refusals 1 to 5, 8.
     pub fn read_share(&self, part: &[u8]) -> Result<ShareRecord, Refusal> {
         let Setup { p, l, e, n } = *self;
-        let (mut dealing, mut holder, mut column, mut value) = (0, 0, 0, 0);
-        let number =
-            unsafe { raw::mavdrusek_read_share(p, l, e, n, part.as_ptr(), part.len(), &mut dealing, &mut holder, &mut column, &mut value) };
+        let (mut dealing, mut holder, mut column, mut value, mut round) = (0, 0, 0, 0, 0);
+        let number = unsafe {
+            raw::mavdrusek_read_share(p, l, e, n, part.as_ptr(), part.len(), &mut dealing, &mut holder, &mut column, &mut value, &mut round)
+        };
         answer(number, 0)?;
-        Ok(ShareRecord { dealing, holder, column, value })
+        Ok(ShareRecord { dealing, holder, column, value, round })
     }
 }
 
@@ -1000,12 +1204,34 @@ pub fn field(p: u16) -> Result<(), Refusal> {
 }
 
 /// The sum of the products of constants and one holder's shares, as many of the one as of the other and at most [`MOST_TERMS`]: its share of that
-/// combination of columns. With two empty slices it is 0, whichever holder asks. Refusals 1, 3, 4.
-pub fn combine(p: u16, constants: &[u16], shares: &[u16]) -> Result<u16, Refusal> {
-    let mut value = 0;
-    let number = unsafe { raw::mavdrusek_combine(p, constants.as_ptr(), constants.len(), shares.as_ptr(), shares.len(), &mut value) };
+/// combination of columns. The rounds of the shares must agree, and the combination has that round; with no constants and no shares it is 0 at round 0,
+/// whichever holder asks. Refusals 1, 3, 4, 19.
+pub fn combine(p: u16, constants: &[u16], shares: &Shares) -> Result<Share, Refusal> {
+    let Shares { values, rounds } = *shares;
+    let (mut value, mut round) = (0, 0);
+    let number = unsafe {
+        raw::mavdrusek_combine(
+            p,
+            constants.as_ptr(),
+            constants.len(),
+            values.as_ptr(),
+            values.len(),
+            rounds.as_ptr(),
+            rounds.len(),
+            &mut value,
+            &mut round,
+        )
+    };
     answer(number, 0)?;
-    Ok(value)
+    Ok(Share { value, round })
+}
+
+/// A holder's share of a column at the next round, from its share at this one and the value of its share of the same column of a zero dealing that was kept.
+/// It opens with those of its own round to what the old ones opened to. Refusals 1, 4, 18.
+pub fn refresh(p: u16, share: &Share, zero: u16) -> Result<Share, Refusal> {
+    let (mut value, mut round) = (0, 0);
+    answer(unsafe { raw::mavdrusek_refresh(p, share.value, share.round, zero, &mut value, &mut round) }, 0)?;
+    Ok(Share { value, round })
 }
 
 /// A board key. It is the secret itself, so it has no `Debug`.
@@ -1029,7 +1255,7 @@ impl Key {
 /// 3, 4.
 ///
 /// ```
-/// use mavdrusek::{deal_key, open_key, Key, Refusal, BOARD};
+/// use mavdrusek::{deal_key, open_key, Key, Refusal, Shares, BOARD};
 ///
 /// let key = Key::from_bytes(*b"sixteen-byte key");
 /// // A real dealer draws the random entries evenly, from a secure source.
@@ -1037,11 +1263,12 @@ impl Key {
 /// let (mut gs, mut hs) = ([0; 112], [0; 112]);
 /// deal_key(&key, &random, &mut gs, &mut hs)?;
 ///
-/// // Seven holders hand in their shares: all of column 0, then all of column 1, 2 and 3.
+/// // Seven holders hand in their shares: all of column 0, then all of column 1, 2 and 3. They are at round 0, as the holders agreed.
 /// let seven = 0b1111111;
 /// let shares: Vec<u16> = (0..4).flat_map(|column| gs.chunks(BOARD.d()).take(7).map(move |g| g[column])).collect();
-/// assert!(open_key(seven, &shares)? == key);
-/// assert_eq!(open_key(0b111, &shares[..12]).err(), Some(Refusal::Undetermined { position: 0 }));
+/// assert!(open_key(seven, &Shares { values: &shares, rounds: &[0; 28] })? == key);
+/// let three = open_key(0b111, &Shares { values: &shares[..12], rounds: &[0; 12] });
+/// assert_eq!(three.err(), Some(Refusal::Undetermined { position: 0 }));
 /// # Ok::<(), Refusal>(())
 /// ```
 pub fn deal_key(key: &Key, random: &[u16], gs: &mut [u16], hs: &mut [u16]) -> Result<(), Refusal> {
@@ -1060,15 +1287,42 @@ pub fn deal_key(key: &Key, random: &[u16], gs: &mut [u16], hs: &mut [u16]) -> Re
     answer(number, 0)
 }
 
-/// Opens the set's shares of a key's four columns: those of column 0 by rising holder, then those of columns 1, 2 and 3. Four times as many are needed as
-/// there are ones among all 32 bits of the set. 7 in any column comes before 16. Refusals 3 to 7, 16.
+/// Opens the set's shares of a key's four columns: those of column 0 by rising holder, then those of columns 1, 2 and 3, with their rounds in the same
+/// order. Four times as many are needed as there are ones among all 32 bits of the set. The rounds of one column must agree; the four columns may stand at
+/// different rounds. 19 in any column comes before 6 and 7, and 7 in any column before 16. Refusals 3 to 7, 16, 19.
 ///
 /// With seven honest holders among the openers, the others can only cause a refusal; with fewer, a false share can open to a false key.
-pub fn open_key(set: u32, shares: &[u16]) -> Result<Key, Refusal> {
+pub fn open_key(set: u32, shares: &Shares) -> Result<Key, Refusal> {
+    let Shares { values, rounds } = *shares;
     let (mut key, mut position) = (Key([0; KEY_BYTES]), 0);
-    let number = unsafe { raw::mavdrusek_open_key(set, shares.as_ptr(), shares.len(), key.0.as_mut_ptr(), key.0.len(), &mut position) };
+    let number = unsafe {
+        raw::mavdrusek_open_key(
+            set,
+            values.as_ptr(),
+            values.len(),
+            rounds.as_ptr(),
+            rounds.len(),
+            key.0.as_mut_ptr(),
+            key.0.len(),
+            &mut position,
+        )
+    };
     answer(number, position)?;
     Ok(key)
+}
+
+/// What a holder's file is of. It carries shares, so it has no `Debug`.
+#[derive(Clone, PartialEq, Eq)]
+pub enum FileKind {
+    /// A dealing.
+    Dealing,
+    /// A dealing and a second one, tied to it by a map.
+    Mapped {
+        /// The ℓ shares of the second dealing, one for each column, where the outcome is kept; else none.
+        shares: Vec<u16>,
+    },
+    /// A zero dealing: its shares refresh those of a dealing.
+    Zero,
 }
 
 /// What a holder's file says. It carries shares, so it has no `Debug`.
@@ -1080,14 +1334,14 @@ pub struct FileContents {
     pub dealing: u16,
     /// Whose file it is.
     pub holder: u16,
+    /// What it is of.
+    pub kind: FileKind,
     /// What the holder finds on the values in the file, and with a DF on the map.
     pub judgement: Judgement,
     /// How the dealing ends on the verdicts in the file.
     pub outcome: Outcome,
-    /// The ℓ shares, one for each column, where the outcome is kept; else none.
+    /// The ℓ shares, one for each column, where the outcome is kept; else none. No round stands in a file.
     pub shares: Vec<u16>,
-    /// Where the file has a DF: the ℓ shares of the second dealing, if the outcome is kept; else none.
-    pub mapped: Option<Vec<u16>>,
     /// What the holder program prints for the file, from the proved printer.
     pub text: String,
 }
@@ -1133,8 +1387,8 @@ fn file_answer(number: u16, byte: usize) -> Result<(), FileRefusal> {
 }
 
 /// Reads a holder's file of at most [`MOST_FILE_BYTES`] bytes: an SU, the holder's DL, its n PV by rising sender and everyone's n VD by rising holder. Where
-/// the dealing is tied to a second one by a map, the holder's DF comes right behind the DL, and its n PF by rising sender between the PV and the VD. The
-/// first faulty record decides.
+/// the dealing is tied to a second one by a map, the holder's DF comes right behind the DL, and its n PF by rising sender between the PV and the VD. A zero
+/// dealing's file has a DZ in place of the DL, and neither DF nor PF. The first faulty record decides.
 /// Refusals 1 to 5, 8 to 13, 17.
 ///
 /// ```
@@ -1152,18 +1406,14 @@ pub fn read_file(file: &[u8]) -> Result<FileContents, FileRefusal> {
     let [p, l, e, n, dealing, holder, accepts, rejected, kept, aborted, ref rest @ ..] = contents;
     let setup = Setup { p, l, e, n };
     let (outcome, count) = if kept == 1 { (Outcome::Kept, l as usize) } else { (Outcome::Aborted(aborted), 0) };
-    // Eight places for the shares, one for whether there is a DF, eight for its shares.
-    let (shares, has_map, mapped) = (&rest[..count], rest[8] == 1, &rest[9..][..count]);
-    Ok(FileContents {
-        setup,
-        dealing,
-        holder,
-        judgement: Judgement::new(accepts, rejected),
-        outcome,
-        shares: shares.to_vec(),
-        mapped: has_map.then(|| mapped.to_vec()),
-        text,
-    })
+    // Eight places for the shares, one for the kind, eight for the shares of a second dealing.
+    let (shares, mapped) = (&rest[..count], &rest[9..][..count]);
+    let kind = match rest[8] {
+        0 => FileKind::Dealing,
+        1 => FileKind::Mapped { shares: mapped.to_vec() },
+        _ => FileKind::Zero,
+    };
+    Ok(FileContents { setup, dealing, holder, kind, judgement: Judgement::new(accepts, rejected), outcome, shares: shares.to_vec(), text })
 }
 
 /// What the proved printer gives for a file.

@@ -85,6 +85,35 @@ unsafe extern "C" {
         hs2: *mut u16,
         hs2_len: usize,
     ) -> u16;
+    pub fn mavdrusek_deal_zero(
+        p: u16,
+        l: u16,
+        e: u16,
+        n: u16,
+        matrix: *const u16,
+        matrix_len: usize,
+        random: *const u16,
+        random_len: usize,
+        holder: u16,
+        g: *mut u16,
+        g_len: usize,
+        h: *mut u16,
+        h_len: usize,
+    ) -> u16;
+    pub fn mavdrusek_deal_zero_all(
+        p: u16,
+        l: u16,
+        e: u16,
+        n: u16,
+        matrix: *const u16,
+        matrix_len: usize,
+        random: *const u16,
+        random_len: usize,
+        gs: *mut u16,
+        gs_len: usize,
+        hs: *mut u16,
+        hs_len: usize,
+    ) -> u16;
     pub fn mavdrusek_pair_value(
         p: u16,
         l: u16,
@@ -131,6 +160,20 @@ unsafe extern "C" {
         verdict: *mut u16,
         named: *mut u16,
     ) -> u16;
+    pub fn mavdrusek_judge_zero(
+        p: u16,
+        l: u16,
+        e: u16,
+        n: u16,
+        matrix: *const u16,
+        matrix_len: usize,
+        h: *const u16,
+        h_len: usize,
+        values: *const u16,
+        values_len: usize,
+        verdict: *mut u16,
+        named: *mut u16,
+    ) -> u16;
     pub fn mavdrusek_outcome(
         p: u16,
         l: u16,
@@ -166,8 +209,12 @@ unsafe extern "C" {
         constants_len: usize,
         shares: *const u16,
         shares_len: usize,
+        rounds: *const u16,
+        rounds_len: usize,
         value: *mut u16,
+        round: *mut u16,
     ) -> u16;
+    pub fn mavdrusek_refresh(p: u16, share: u16, round: u16, zero: u16, value: *mut u16, next: *mut u16) -> u16;
     pub fn mavdrusek_determines(p: u16, l: u16, e: u16, n: u16, matrix: *const u16, matrix_len: usize, set: u32, yes: *mut u16) -> u16;
     pub fn mavdrusek_private(p: u16, l: u16, e: u16, n: u16, matrix: *const u16, matrix_len: usize, set: u32, yes: *mut u16) -> u16;
     pub fn mavdrusek_judge_set(
@@ -194,6 +241,8 @@ unsafe extern "C" {
         set: u32,
         shares: *const u16,
         shares_len: usize,
+        rounds: *const u16,
+        rounds_len: usize,
         secrets: *mut u16,
         secrets_len: usize,
         position: *mut u16,
@@ -208,7 +257,16 @@ unsafe extern "C" {
         hs: *mut u16,
         hs_len: usize,
     ) -> u16;
-    pub fn mavdrusek_open_key(set: u32, shares: *const u16, shares_len: usize, key: *mut u8, key_len: usize, position: *mut u16) -> u16;
+    pub fn mavdrusek_open_key(
+        set: u32,
+        shares: *const u16,
+        shares_len: usize,
+        rounds: *const u16,
+        rounds_len: usize,
+        key: *mut u8,
+        key_len: usize,
+        position: *mut u16,
+    ) -> u16;
     pub fn mavdrusek_write_setup(
         p: u16,
         l: u16,
@@ -273,6 +331,20 @@ unsafe extern "C" {
         out: *mut u8,
         out_len: usize,
     ) -> u16;
+    pub fn mavdrusek_write_zero_dealing(
+        p: u16,
+        l: u16,
+        e: u16,
+        n: u16,
+        dealing: u16,
+        holder: u16,
+        g: *const u16,
+        g_len: usize,
+        h: *const u16,
+        h_len: usize,
+        out: *mut u8,
+        out_len: usize,
+    ) -> u16;
     pub fn mavdrusek_write_verdict(
         p: u16,
         l: u16,
@@ -293,6 +365,7 @@ unsafe extern "C" {
         holder: u16,
         column: u16,
         value: u16,
+        round: u16,
         out: *mut u8,
         out_len: usize,
     ) -> u16;
@@ -352,6 +425,20 @@ unsafe extern "C" {
         receiver: *mut u16,
         value: *mut u16,
     ) -> u16;
+    pub fn mavdrusek_read_zero_dealing(
+        p: u16,
+        l: u16,
+        e: u16,
+        n: u16,
+        part: *const u8,
+        part_len: usize,
+        g: *mut u16,
+        g_len: usize,
+        h: *mut u16,
+        h_len: usize,
+        dealing: *mut u16,
+        holder: *mut u16,
+    ) -> u16;
     pub fn mavdrusek_read_verdict(
         p: u16,
         l: u16,
@@ -374,6 +461,7 @@ unsafe extern "C" {
         holder: *mut u16,
         column: *mut u16,
         value: *mut u16,
+        round: *mut u16,
     ) -> u16;
     pub fn mavdrusek_read_file(file: *const u8, file_len: usize, contents: *mut u16, contents_len: usize, byte: *mut usize) -> u16;
     pub fn mavdrusek_holder_file(

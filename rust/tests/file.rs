@@ -1,4 +1,5 @@
-//! The holder's file of document 01, 90 bytes, the same with a second dealing tied by a map, and what becomes of them when they are damaged.
+//! The holder's file of document 01, 90 bytes, the same with a second dealing tied by a map, that of a zero dealing, and what becomes of them when they are
+//! damaged.
 
 use mavdrusek::*;
 
@@ -52,6 +53,22 @@ fn file_with(values: [u16; 3], second: Option<Second>, verdicts: [Verdict; 3]) -
     bytes
 }
 
+/// Holder 1's file of a zero dealing with the random entries 6, 1.
+fn zero_file(values: [u16; 3], verdicts: [Verdict; 3]) -> Vec<u8> {
+    let mut record = vec![0; SETUP.zero_dealing_bytes()];
+    SETUP.write_zero_dealing(&DealingRecord { dealing: 1, holder: 1 }, &[4, 3], &[5], &mut record).unwrap();
+    let plain = file(values, verdicts);
+    [&plain[..22], &record, &plain[36..]].concat()
+}
+
+/// The shares of the second dealing, where there is one.
+fn mapped(found: &FileContents) -> Option<&[u16]> {
+    match &found.kind {
+        FileKind::Mapped { shares } => Some(shares),
+        _ => None,
+    }
+}
+
 fn contents(file: &[u8]) -> FileContents {
     match read_file(file) {
         Ok(contents) => contents,
@@ -74,7 +91,7 @@ fn sound() {
     let found = contents(&file);
     assert_eq!((found.setup, found.dealing, found.holder), (SETUP, 1, 1));
     assert_eq!((found.judgement, found.outcome), (Judgement::Accept, Outcome::Kept));
-    assert_eq!((&found.shares[..], &found.mapped), (&[2][..], &None));
+    assert!(found.shares == [2] && found.kind == FileKind::Dealing);
     assert_eq!(found.text, "setup 7 1 1 3\ndealing 1 holder 1\nverdict accept\noutcome kept\nshare 0 2\n");
 }
 
@@ -85,8 +102,62 @@ fn sound_with_a_map() {
     let found = contents(&file);
     assert_eq!((found.setup, found.dealing, found.holder), (SETUP, 1, 1));
     assert_eq!((found.judgement, found.outcome), (Judgement::Accept, Outcome::Kept));
-    assert_eq!((&found.shares[..], found.mapped), (&[2][..], Some(vec![0])));
+    assert_eq!((&found.shares[..], mapped(&found)), (&[2][..], Some(&[0][..])));
     assert_eq!(found.text, "setup 7 1 1 3\ndealing 1 holder 1\nverdict accept\noutcome kept\nshare 0 2\nmapped 0 0\n");
+}
+
+#[test]
+fn sound_of_zeros() {
+    let file = zero_file([3, 1, 6], ACCEPT);
+    assert_eq!(file.len(), 88);
+    let found = contents(&file);
+    assert_eq!((found.setup, found.dealing, found.holder), (SETUP, 1, 1));
+    assert_eq!((found.judgement, found.outcome), (Judgement::Accept, Outcome::Kept));
+    assert!(found.shares == [4] && found.kind == FileKind::Zero);
+    assert_eq!(found.text, "setup 7 1 1 3\ndealing 1 holder 1\nverdict accept\noutcome kept\nshare 0 4\n");
+    // A dealing's values are none of zeros.
+    let found = contents(&zero_file([2, 1, 0], OWN_REJECTS));
+    assert_eq!((found.judgement, found.outcome), (Judgement::Reject(0), Outcome::Aborted(1)));
+    assert!(found.shares.is_empty() && found.kind == FileKind::Zero);
+    assert_eq!(refused(&zero_file([2, 1, 0], ACCEPT)), "refused 13 at 88");
+}
+
+/// A zero dealing's file has a DZ in the DL's place, and no DL, DF or PF; a dealing's has no DZ.
+#[test]
+fn one_kind() {
+    let (plain, tied, file) = (file([2, 1, 0], ACCEPT), mapped_file([2, 1, 0], SECOND, ACCEPT), zero_file([3, 1, 6], ACCEPT));
+    let (dealing, map, pair, zero) = (&tied[22..36], &tied[36..52], &tied[82..92], &file[22..34]);
+    for at in [34, 44, 54, 64, 72, 80, 88] {
+        for other in [dealing, map, pair] {
+            assert_eq!(refused(&[&file[..at], other, &file[at..]].concat()), format!("refused 8 at {at}"));
+            assert_eq!(refused(&[&file[..at], &other[..2]].concat()), format!("refused 8 at {at}"));
+        }
+        assert_eq!(refused(&[&file[..at], b"DZ"].concat()), format!("refused 10 at {at}"));
+        assert_eq!(refused(&[&file[..at], b"SU"].concat()), format!("refused 10 at {at}"));
+    }
+    for at in [36, 46, 56, 66, 74, 82, 90] {
+        assert_eq!(refused(&[&plain[..at], zero, &plain[at..]].concat()), format!("refused 8 at {at}"));
+    }
+    for at in [36, 52, 62, 72, 82, 92, 102, 112, 120, 128, 136] {
+        assert_eq!(refused(&[&tied[..at], zero, &tied[at..]].concat()), format!("refused 8 at {at}"));
+    }
+    assert_eq!(refused(zero), "refused 8 at 0");
+    for at in 0..file.len() {
+        assert!(read_file(&file[..at]).is_err());
+    }
+    for (at, byte, refusal, start) in [
+        (24, 0, Refusal::DealingNumber, 22),
+        (26, 3, Refusal::Range, 22),
+        (28, 7, Refusal::Element, 22),
+        (32, 7, Refusal::Element, 22),       // h
+        (36, 2, Refusal::DealingNumber, 34), // another dealing's PV
+        (40, 0, Refusal::Range, 34),         // a PV to holder 0
+        (48, 2, Refusal::Order, 44),         // the second PV from holder 2
+    ] {
+        let mut file = file.clone();
+        file[at] = byte;
+        assert!(read_file(&file) == Err(FileRefusal { refusal, byte: Some(start) }), "byte {at}: {}", refused(&file));
+    }
 }
 
 /// The largest sizes: eight shares, with a map as many again, the longest text.
@@ -116,8 +187,8 @@ fn largest() {
     assert_eq!((plain.len(), tied.len()), (1680, 2198));
     let (found, found2) = (contents(&plain), contents(&tied));
     assert_eq!((found.setup, found.dealing, found.holder), (setup, 65535, 31));
-    assert_eq!((&found.shares[..], &found.mapped), (&g[..8], &None));
-    assert_eq!((&found2.shares[..], &found2.mapped), (&g[..8], &Some(g2[..8].to_vec())));
+    assert_eq!((&found.shares[..], mapped(&found)), (&g[..8], None));
+    assert_eq!((&found2.shares[..], mapped(&found2)), (&g[..8], Some(&g2[..8])));
     let shares: String = (0..8).map(|b| format!("share {b} {}\n", g[b])).collect();
     assert_eq!(found.text, format!("setup 65521 8 8 32\ndealing 65535 holder 31\nverdict accept\noutcome kept\n{shares}"));
     let mapped: String = (0..8).map(|b| format!("mapped {b} {}\n", g2[b])).collect();
@@ -203,7 +274,7 @@ fn another_map() {
         let mut file = mapped_file(values, second, OWN_REJECTS);
         let found = contents(&file);
         assert_eq!((found.judgement, found.outcome), (judgement, Outcome::Aborted(1)));
-        assert_eq!((&found.shares[..], found.mapped), (&[][..], Some(vec![])));
+        assert_eq!((&found.shares[..], mapped(&found)), (&[][..], Some(&[][..])));
         assert_eq!(found.text, format!("setup 7 1 1 3\ndealing 1 holder 1\nverdict reject {said}\noutcome aborted 1\n"));
         file[126] = 1; // the own verdict
         assert_eq!(refused(&file), "refused 13 at 136");

@@ -51,8 +51,13 @@ fn opens_to(found: Result<Key, Refusal>, key: &Key) -> bool {
     found.is_ok_and(|found| found == *key)
 }
 
+/// Opens shares of round 0.
+fn open(set: u32, values: &[u16]) -> Result<Key, Refusal> {
+    open_key(set, &Shares { values, rounds: &vec![0; values.len()] })
+}
+
 fn refusal(set: u32, shares: &[u16]) -> Option<Refusal> {
-    open_key(set, shares).err()
+    open(set, shares).err()
 }
 
 #[test]
@@ -65,12 +70,12 @@ fn every_seven_open() {
         deal_key(key, &random, &mut gs, &mut hs).unwrap();
         let mut sets = 0;
         for set in (0..1u32 << 16).filter(|set| set.count_ones() == 7) {
-            assert!(opens_to(open_key(set, &shares(&gs, set)), key), "set {set:x}");
+            assert!(opens_to(open(set, &shares(&gs, set)), key), "set {set:x}");
             sets += 1;
         }
         assert_eq!(sets, 11440);
         for set in [0xff, 0x5555, 0x7fff, 0xfffe, 0xffff] {
-            assert!(opens_to(open_key(set, &shares(&gs, set)), key), "set {set:x}");
+            assert!(opens_to(open(set, &shares(&gs, set)), key), "set {set:x}");
         }
     }
 }
@@ -95,13 +100,13 @@ fn as_the_calls_below() {
         let mut opened = vec![];
         for column in handed.chunks(handed.len().max(4) / 4) {
             let mut secrets = [0; 4];
-            match BOARD.open(&m, set, column, &mut secrets) {
+            match BOARD.open(&m, set, &Shares { values: column, rounds: &vec![0; column.len()] }, &mut secrets) {
                 Ok(()) => opened.extend(secrets),
                 Err(refused) => assert_eq!(refusal(set, &handed), Some(refused)),
             }
         }
         if opened.len() == 16 && !opened.contains(&256) {
-            assert!(open_key(set, &handed).is_ok_and(|found| elements(&found) == opened));
+            assert!(open(set, &handed).is_ok_and(|found| elements(&found) == opened));
         }
     }
 }
@@ -125,7 +130,7 @@ fn no_byte() {
         }
     }
     let gs = dealt(&[255; 16], &[256; 33]);
-    assert!(opens_to(open_key(0xffff, &shares(&gs, 0xffff)), &Key::from_bytes([255; 16])));
+    assert!(opens_to(open(0xffff, &shares(&gs, 0xffff)), &Key::from_bytes([255; 16])));
 }
 
 /// Each share of sixteen holders made false.
@@ -207,4 +212,65 @@ fn refused_openings() {
     assert_eq!(refusal(0, &[0; 4]), Some(Refusal::Length));
     assert_eq!(refusal(u32::MAX, &[0; 128]), Some(Refusal::Range));
     assert_eq!(refusal(u32::MAX, &[0; 64]), Some(Refusal::Length));
+}
+
+/// The four columns may stand at different rounds; one share of a column at another round is refused, before 6, 7 and 16, and after 3, 4 and 5.
+#[test]
+fn rounds() {
+    let mut r = Random(19);
+    let key = r.key();
+    let gs = dealt(&elements(&key), &r.elements(257, 33));
+    for set in [0x84b5u32, 0xff, 0xffff] {
+        let (handed, count) = (shares(&gs, set), set.count_ones() as usize);
+        let open = |values: &[u16], rounds: &[u16]| open_key(set, &Shares { values, rounds });
+        for by_column in [[0; 4], [65535; 4], [0, 1, 65534, 65535], [3, 3, 3, 4]] {
+            let rounds: Vec<u16> = by_column.iter().flat_map(|&round| vec![round; count]).collect();
+            assert!(opens_to(open(&handed, &rounds), &key));
+            for at in 0..4 * count {
+                let mut other = rounds.clone();
+                other[at] ^= 1;
+                assert_eq!(open(&handed, &other).err(), Some(Refusal::Rounds));
+                let (mut high, mut lie) = (handed.clone(), handed.clone());
+                high[at] = 257;
+                lie[at] = (lie[at] + 1) % 257;
+                assert_eq!(open(&high, &other).err(), Some(Refusal::Element));
+                assert_eq!(open(&lie, &other).err(), Some(Refusal::Rounds));
+                assert_eq!(open(&handed, &other[1..]).err(), Some(Refusal::Length));
+            }
+        }
+        let by_holder: Vec<u16> = (0..4 * count).map(|k| (k % count) as u16).collect();
+        assert_eq!(open(&handed, &by_holder).err(), Some(Refusal::Rounds));
+    }
+    let six = [[0; 6], [0; 6], [1; 6], [1, 1, 1, 1, 1, 2]].concat();
+    assert_eq!(open_key(0x3f, &Shares { values: &[0; 24], rounds: &six }).err(), Some(Refusal::Rounds));
+    assert_eq!(open_key(0x1003f, &Shares { values: &[0; 28], rounds: &[&six[..], &[0; 4]].concat() }).err(), Some(Refusal::Range));
+    let gs = dealt(&[256; 16], &[0; 33]);
+    let mut rounds = vec![7; 64];
+    assert_eq!(open_key(0xffff, &Shares { values: &shares(&gs, 0xffff), rounds: &rounds }).err(), Some(Refusal::NoByte));
+    rounds[63] = 8;
+    assert_eq!(open_key(0xffff, &Shares { values: &shares(&gs, 0xffff), rounds: &rounds }).err(), Some(Refusal::Rounds));
+}
+
+/// A key refreshed once in its first column and twice in its last opens as before.
+#[test]
+fn refreshed() {
+    let (m, mut r) = (matrix(), Random(18));
+    let key = r.key();
+    let gs = dealt(&elements(&key), &r.elements(257, 33));
+    let mut all: Vec<Share> = shares(&gs, 0xffff).into_iter().map(|value| Share { value, round: 0 }).collect();
+    for columns in [vec![0, 3], vec![3]] {
+        let (mut gs, mut hs) = ([9; ENTRIES], [9; 48]);
+        BOARD.deal_zero_all(&m, &r.elements(257, BOARD.zero_random()), &mut gs, &mut hs).unwrap();
+        for i in 0..16 {
+            let values: Vec<u16> = gs.chunks(D).map(|g| BOARD.pair_value(&m, g, i as u16).unwrap()).collect();
+            assert_eq!(BOARD.judge_zero(&m, &hs[3 * i..3 * i + 3], &values), Ok(Judgement::Accept));
+            for &b in &columns {
+                let fresh = refresh(257, &all[16 * b + i], gs[i * D + b]);
+                all[16 * b + i] = fresh.ok().unwrap();
+            }
+        }
+    }
+    let (values, rounds): (Vec<u16>, Vec<u16>) = all.iter().map(|share| (share.value, share.round)).unzip();
+    assert_eq!((rounds[0], rounds[16], rounds[63]), (1, 0, 2));
+    assert!(opens_to(open_key(0xffff, &Shares { values: &values, rounds: &rounds }), &key));
 }

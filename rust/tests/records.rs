@@ -95,14 +95,38 @@ fn verdict() {
 }
 
 #[test]
+fn zero_dealing() {
+    let record = DealingRecord { dealing: 65535, holder: 3 };
+    let (g, h) = ([0, 1, 256], [255]);
+    let mut out = vec![0; SETUP.zero_dealing_bytes()];
+    SETUP.write_zero_dealing(&record, &g, &h, &mut out).unwrap();
+    assert_eq!(out, b"DZ\xff\xff\x03\0\0\0\x01\0\0\x01\xff\0");
+    for part in [out.clone(), followed(&out)] {
+        let (mut back_g, mut back_h) = ([9; 3], [9]);
+        assert_eq!(SETUP.read_zero_dealing(&part, &mut back_g, &mut back_h), Ok(record));
+        assert_eq!((back_g, back_h), (g, h));
+    }
+    assert_eq!(SETUP.read_zero_dealing(&out[..13], &mut [9; 3], &mut [9]), Err(Refusal::Length));
+    assert_eq!(SETUP.read_dealing(&out, &mut [9; 3], &mut [9; 3]), Err(Refusal::Mark));
+}
+
+#[test]
 fn share() {
-    for record in [ShareRecord { dealing: 9, holder: 3, column: 1, value: 256 }, ShareRecord { dealing: 0, holder: 0, column: 0, value: 5 }]
-    {
-        let mut out = [0; SHARE_BYTES];
-        SETUP.write_share(&record, &mut out).unwrap();
-        assert_eq!(&out[..4], &[b'S', b'H', record.dealing as u8, 0]);
-        assert!(SETUP.read_share(&out) == Ok(record.clone()));
-        assert!(SETUP.read_share(&followed(&out)) == Ok(record));
+    for round in [0, 1, 258, 65534, 65535] {
+        for record in [
+            ShareRecord { dealing: 9, holder: 3, column: 1, value: 256, round },
+            ShareRecord { dealing: 0, holder: 0, column: 0, value: 5, round },
+        ] {
+            let mut out = [0; SHARE_BYTES];
+            SETUP.write_share(&record, &mut out).unwrap();
+            assert_eq!(&out[..4], &[b'S', b'H', record.dealing as u8, 0]);
+            assert_eq!(&out[10..], round.to_le_bytes());
+            assert!(SETUP.read_share(&out) == Ok(record.clone()));
+            assert!(SETUP.read_share(&followed(&out)) == Ok(record));
+            // without a round, and with half of one
+            assert_eq!(SETUP.read_share(&out[..10]).err(), Some(Refusal::Length));
+            assert_eq!(SETUP.read_share(&out[..11]).err(), Some(Refusal::Length));
+        }
     }
 }
 
@@ -118,7 +142,10 @@ fn not_printed_not_copied() {
     impl<T: Copy> Neither<u16> for T {}
     <PairValueRecord as Neither<_>>::neither();
     <ShareRecord as Neither<_>>::neither();
+    <Share as Neither<_>>::neither();
+    <Shares as Neither<_>>::neither();
     <FileContents as Neither<_>>::neither();
+    <FileKind as Neither<_>>::neither();
     <Key as Neither<_>>::neither();
     <MappedSecrets as Neither<_>>::neither();
     <MappedParts as Neither<_>>::neither();

@@ -25,6 +25,20 @@ fn mapped(lengths: [usize; 4], deal: impl Fn(MappedParts) -> Result<(), Refusal>
     answer
 }
 
+/// Opens shares of round 3, into secrets that a refusal leaves.
+fn open(setup: Setup, matrix: &[u16], set: u32, values: &[u16], secrets: &mut [u16]) -> Result<(), Refusal> {
+    let before = secrets.to_vec();
+    let answer = setup.open(matrix, set, &Shares { values, rounds: &vec![3; values.len()] }, secrets);
+    assert!(answer.is_ok() || before == secrets);
+    answer
+}
+
+/// A combination of shares of round 3.
+fn combined(p: u16, constants: &[u16], values: &[u16]) -> Result<u16, Refusal> {
+    combine(p, constants, &Shares { values, rounds: &vec![3; values.len()] }).map(|share| share.value)
+}
+
+const NO_SHARES: Shares = Shares { values: &[], rounds: &[] };
 const NOTHING: MappedSecrets = MappedSecrets { secrets: &[], random: &[], phi: &[], random2: &[] };
 const DEALT: MappedSecrets = MappedSecrets { secrets: &[3], random: &[1, 5, 2], phi: &[2], random2: &[4, 1] };
 
@@ -47,6 +61,8 @@ fn numbers() {
         (Refusal::TooFewPoints, 15),
         (Refusal::NoByte, 16),
         (Refusal::Order, 17),
+        (Refusal::LastRound, 18),
+        (Refusal::Rounds, 19),
     ];
     for (refusal, number) in all {
         assert_eq!(refusal.number(), number);
@@ -61,13 +77,14 @@ fn no_field() {
     }
     for p in [0, 1, 3, 8, 256, 65535] {
         assert_eq!(field(p), Err(Refusal::NoField));
-        assert_eq!(combine(p, &[1], &[1]), Err(Refusal::NoField));
-        assert_eq!(combine(p, &[], &[]), Err(Refusal::NoField));
+        assert_eq!(combined(p, &[1], &[1]), Err(Refusal::NoField));
+        assert_eq!(combined(p, &[], &[]), Err(Refusal::NoField));
+        assert!(refresh(p, &Share { value: 65535, round: 65535 }, 65535) == Err(Refusal::NoField));
     }
     // 1 comes before all that is wrong beside it.
     let wrong = Setup { p: 0, l: 0, e: 65535, n: 65535 };
     assert_eq!(wrong.points(&mut []), Err(Refusal::NoField));
-    assert_eq!(wrong.open(&[], 0, &[], &mut []), Err(Refusal::NoField));
+    assert_eq!(wrong.open(&[], 0, &NO_SHARES, &mut []), Err(Refusal::NoField));
 }
 
 #[test]
@@ -84,12 +101,16 @@ fn limits() {
         assert_eq!(wrong.judge_mapped(&[], &[], &[], &[], &[], &[]), Err(Refusal::Limits));
         assert_eq!(wrong.read_mapped_pair_value(&[]).err(), Some(Refusal::Limits));
         assert_eq!(wrong.read_mapped_dealing(&[], &mut [], &mut [], &mut []), Err(Refusal::Limits));
+        assert_eq!(wrong.deal_zero(&[], &[], 0, &mut [], &mut []), Err(Refusal::Limits));
+        assert_eq!(wrong.deal_zero_all(&[], &[], &mut [], &mut []), Err(Refusal::Limits));
+        assert_eq!(wrong.judge_zero(&[], &[], &[]), Err(Refusal::Limits));
+        assert_eq!(wrong.read_zero_dealing(&[], &mut [], &mut []), Err(Refusal::Limits));
         assert_eq!(wrong.outcome(&[], &[], &mut []), Err(Refusal::Limits));
         assert_eq!(wrong.rehearse(&[], &[], &[]), Err(Refusal::Limits));
         assert_eq!(wrong.determines(&[], 0), Err(Refusal::Limits));
         assert_eq!(wrong.private(&[], 0), Err(Refusal::Limits));
         assert_eq!(wrong.judge_set(&[], 0, 0, &mut []), Err(Refusal::Limits));
-        assert_eq!(wrong.open(&[], 0, &[], &mut []), Err(Refusal::Limits));
+        assert_eq!(wrong.open(&[], 0, &NO_SHARES, &mut []), Err(Refusal::Limits));
         assert_eq!(wrong.write_setup(&[], &mut []), Err(Refusal::Limits));
         assert_eq!(wrong.read_verdict(&[]), Err(Refusal::Limits));
     }
@@ -106,29 +127,34 @@ fn empty_slices() {
     assert_eq!(deal_mapped(SETUP, &[], NOTHING, [0; 4]), Err(Refusal::Length));
     assert_eq!(deal_mapped_all(SETUP, &[], NOTHING, [0; 4]), Err(Refusal::Length));
     assert_eq!(SETUP.judge_mapped(&[], &[], &[], &[], &[], &[]), Err(Refusal::Length));
+    assert_eq!(SETUP.deal_zero(&[], &[], 0, &mut [], &mut []), Err(Refusal::Length));
+    assert_eq!(SETUP.deal_zero_all(&[], &[], &mut [], &mut []), Err(Refusal::Length));
+    assert_eq!(SETUP.judge_zero(&[], &[], &[]), Err(Refusal::Length));
     assert_eq!(SETUP.outcome(&[], &[], &mut []), Err(Refusal::Length));
     assert_eq!(SETUP.rehearse(&[], &[], &[]), Err(Refusal::Length));
     assert_eq!(SETUP.determines(&[], 0), Err(Refusal::Length));
     assert_eq!(SETUP.private(&[], 0), Err(Refusal::Length));
     assert_eq!(SETUP.judge_set(&[], 0, 0, &mut []), Err(Refusal::Length));
-    assert_eq!(SETUP.open(&[], 0, &[], &mut []), Err(Refusal::Length));
+    assert_eq!(SETUP.open(&[], 0, &NO_SHARES, &mut []), Err(Refusal::Length));
     assert_eq!(deal_key(&Key::from_bytes([0; KEY_BYTES]), &[], &mut [], &mut []), Err(Refusal::Length));
-    assert_eq!(open_key(0b111_1111, &[]).err(), Some(Refusal::Length));
+    assert_eq!(open_key(0b111_1111, &NO_SHARES).err(), Some(Refusal::Length));
     assert_eq!(SETUP.write_setup(&[], &mut []), Err(Refusal::Length));
     assert_eq!(SETUP.write_dealing(&DealingRecord { dealing: 1, holder: 0 }, &[], &[], &mut []), Err(Refusal::Length));
     assert_eq!(SETUP.write_mapped_dealing(&DealingRecord { dealing: 1, holder: 0 }, &[], &[], &[], &mut []), Err(Refusal::Length));
+    assert_eq!(SETUP.write_zero_dealing(&DealingRecord { dealing: 1, holder: 0 }, &[], &[], &mut []), Err(Refusal::Length));
     let pair = PairValueRecord { dealing: 1, sender: 0, receiver: 0, value: 0 };
     assert_eq!(SETUP.write_pair_value(&pair, &mut []), Err(Refusal::Length));
     assert_eq!(SETUP.write_mapped_pair_value(&pair, &mut []), Err(Refusal::Length));
     let verdict = VerdictRecord { dealing: 1, holder: 0, verdict: Verdict::Accept };
     assert_eq!(SETUP.write_verdict(&verdict, &mut []), Err(Refusal::Length));
-    let share = ShareRecord { dealing: 1, holder: 0, column: 0, value: 0 };
+    let share = ShareRecord { dealing: 1, holder: 0, column: 0, value: 0, round: 0 };
     assert_eq!(SETUP.write_share(&share, &mut []), Err(Refusal::Length));
     assert_eq!(Setup::read_setup(&[]), Err(Refusal::Length));
     assert_eq!(read_setup_matrix(&[], &mut []), Err(Refusal::Length));
     assert_eq!(SETUP.read_dealing(&[], &mut [], &mut []), Err(Refusal::Length));
     assert_eq!(SETUP.read_pair_value(&[]).err(), Some(Refusal::Length));
     assert_eq!(SETUP.read_mapped_dealing(&[], &mut [], &mut [], &mut []), Err(Refusal::Length));
+    assert_eq!(SETUP.read_zero_dealing(&[], &mut [], &mut []), Err(Refusal::Length));
     assert_eq!(SETUP.read_mapped_pair_value(&[]).err(), Some(Refusal::Length));
     assert_eq!(SETUP.read_verdict(&[]), Err(Refusal::Length));
     assert_eq!(SETUP.read_share(&[]).err(), Some(Refusal::Length));
@@ -174,16 +200,30 @@ fn lengths() {
     assert_eq!(SETUP.judge_mapped(&m, &[4, 3], &[2, 1, 0], &[2], &[1, 2], &[3, 4]), Err(Refusal::Length));
     assert_eq!(SETUP.outcome(&[2, 4], &[Verdict::Accept; 4], &mut [9]), Err(Refusal::Length));
     assert_eq!(SETUP.judge_set(&m, 0b101, 0, &mut [9; 31]), Err(Refusal::Length));
-    assert_eq!(SETUP.open(&m, 0b101, &[0, 2, 4], &mut [9]), Err(Refusal::Length));
-    assert_eq!(combine(7, &[1; 65], &[1; 65]), Err(Refusal::Length));
-    assert_eq!(combine(7, &[1; 64], &[1; 64]), Ok(1));
+    assert_eq!(open(SETUP, &m, 0b101, &[0, 2, 4], &mut [9]), Err(Refusal::Length));
+    for (values, rounds) in [(&[0, 4][..], &[3][..]), (&[0, 4], &[3; 3]), (&[0], &[3; 2]), (&[0, 4], &[])] {
+        assert_eq!(SETUP.open(&m, 0b101, &Shares { values, rounds }, &mut [9]), Err(Refusal::Length));
+        assert_eq!(combine(7, &[1; 2], &Shares { values, rounds }).err(), Some(Refusal::Length));
+    }
+    for (g, h) in [(1, 1), (3, 1), (2, 0), (2, 2)] {
+        assert_eq!(SETUP.deal_zero(&m, &[6, 1], 0, &mut vec![9; g], &mut vec![9; h]), Err(Refusal::Length));
+        assert_eq!(SETUP.deal_zero_all(&m, &[6, 1], &mut vec![9; 3 * g], &mut vec![9; 3 * h]), Err(Refusal::Length));
+    }
+    for random in [&[][..], &[6], &[6, 1, 6]] {
+        assert_eq!(SETUP.deal_zero(&m, random, 0, &mut [9; 2], &mut [9]), Err(Refusal::Length));
+    }
+    assert_eq!(SETUP.judge_zero(&m, &[5, 5], &[3, 1, 6]), Err(Refusal::Length));
+    assert_eq!(SETUP.judge_zero(&m, &[5], &[3, 1]), Err(Refusal::Length));
+    assert_eq!(combined(7, &[1; 65], &[1; 65]), Err(Refusal::Length));
+    assert_eq!(combined(7, &[1; 64], &[1; 64]), Ok(1));
     for p in PRIMES {
-        assert_eq!(combine(p, &[], &[1]), Err(Refusal::Length));
-        assert_eq!(combine(p, &[1], &[]), Err(Refusal::Length));
+        assert_eq!(combined(p, &[], &[1]), Err(Refusal::Length));
+        assert_eq!(combined(p, &[1], &[]), Err(Refusal::Length));
+        assert_eq!(combine(p, &[], &Shares { values: &[], rounds: &[1] }).err(), Some(Refusal::Length));
     }
     // As many shares as there are ones among all 32 bits of the set.
-    assert_eq!(SETUP.open(&m, 0b1001, &[0, 4], &mut [9]), Err(Refusal::Range));
-    assert_eq!(SETUP.open(&m, 0b1001, &[0], &mut [9]), Err(Refusal::Length));
+    assert_eq!(open(SETUP, &m, 0b1001, &[0, 4], &mut [9]), Err(Refusal::Range));
+    assert_eq!(open(SETUP, &m, 0b1001, &[0], &mut [9]), Err(Refusal::Length));
     assert_eq!(read_file(&[0; 4097]).err(), Some(FileRefusal { refusal: Refusal::Length, byte: None }));
     assert_eq!(read_file(&[0; 4096]).err(), Some(FileRefusal { refusal: Refusal::Mark, byte: Some(0) }));
 }
@@ -208,12 +248,21 @@ fn elements() {
     assert_eq!(SETUP.judge_mapped(&m, &[4, 3], &[2, 1, 0], &[7], &[1, 2], &[3, 4, 5]), Err(Refusal::Element));
     assert_eq!(SETUP.judge_mapped(&m, &[4, 3], &[2, 1, 0], &[2], &[1, 7], &[3, 4, 5]), Err(Refusal::Element));
     assert_eq!(SETUP.judge_mapped(&m, &[4, 3], &[2, 1, 0], &[2], &[1, 2], &[3, 4, 7]), Err(Refusal::Element));
+    let (mut g, mut h) = ([9; 2], [9]);
+    assert_eq!(SETUP.deal_zero(&m, &[6, 7], 0, &mut g, &mut h), Err(Refusal::Element));
+    assert_eq!(SETUP.deal_zero(&high, &[6, 1], 3, &mut g, &mut h), Err(Refusal::Element));
+    assert_eq!((g, h), ([9; 2], [9]));
+    assert_eq!(SETUP.judge_zero(&m, &[7], &[3, 1, 6]), Err(Refusal::Element));
+    assert_eq!(SETUP.judge_zero(&m, &[5], &[3, 1, 7]), Err(Refusal::Element));
+    for (value, zero) in [(7, 0), (0, 7), (65535, 65535)] {
+        assert!(refresh(7, &Share { value, round: 65535 }, zero) == Err(Refusal::Element));
+    }
     assert_eq!(SETUP.outcome(&[2, 7], &[Verdict::Accept; 3], &mut [9]), Err(Refusal::Element));
     assert_eq!(SETUP.rehearse(&m, &m, &high), Err(Refusal::Element));
     assert_eq!(SETUP.determines(&high, 0b111), Err(Refusal::Element));
     let mut out = [9; 32];
     assert_eq!((SETUP.judge_set(&high, 0b011, 0, &mut out), out), (Err(Refusal::Element), [9; 32]));
-    assert_eq!(SETUP.open(&m, 0b101, &[0, 7], &mut [9]), Err(Refusal::Element));
+    assert_eq!(open(SETUP, &m, 0b101, &[0, 7], &mut [9]), Err(Refusal::Element));
 }
 
 #[test]
@@ -222,14 +271,15 @@ fn ranges() {
     assert_eq!(SETUP.deal(&m, &[3], &[1, 5, 2], 3, &mut [0; 2], &mut [0; 2]), Err(Refusal::Range));
     assert_eq!(SETUP.pair_value(&m, &[0, 3], 3), Err(Refusal::Range));
     assert_eq!(mapped([2; 4], |parts| SETUP.deal_mapped(&m, &DEALT, 3, parts)), Err(Refusal::Range));
+    assert_eq!(SETUP.deal_zero(&m, &[6, 1], 3, &mut [0; 2], &mut [0]), Err(Refusal::Range));
     assert_eq!(SETUP.determines(&m, 0b1000), Err(Refusal::Range));
     assert_eq!(SETUP.private(&m, 1 << 31), Err(Refusal::Range));
     let mut out = [9; 32];
     assert_eq!(SETUP.judge_set(&m, 0b101, 1, &mut out), Err(Refusal::Range));
     assert_eq!(SETUP.judge_set(&m, 0b1101, 0, &mut out), Err(Refusal::Range));
     assert_eq!(out, [9; 32]);
-    assert_eq!(SETUP.open(&m, 0b1001, &[0, 4], &mut [9]), Err(Refusal::Range));
-    let share = ShareRecord { dealing: 0, holder: 0, column: 1, value: 0 };
+    assert_eq!(open(SETUP, &m, 0b1001, &[0, 4], &mut [9]), Err(Refusal::Range));
+    let share = ShareRecord { dealing: 0, holder: 0, column: 1, value: 0, round: 0 };
     let two = Setup { l: 2, ..SETUP };
     assert_eq!(two.write_share(&share, &mut [0; SHARE_BYTES]), Err(Refusal::Range));
     assert_eq!(two.write_share(&ShareRecord { dealing: 1, ..share }, &mut [0; SHARE_BYTES]), Ok(()));
@@ -241,9 +291,9 @@ fn undetermined() {
     let setup = Setup { p: 257, l: 3, e: 1, n: 3 };
     let matrix = [1, 0, 0, 0, 0, 0, 1, 0, 0, 1, 0, 0];
     let mut secrets = [9; 3];
-    assert_eq!(setup.open(&matrix, 0b011, &[5, 6], &mut secrets), Err(Refusal::Undetermined { position: 1 }));
+    assert_eq!(open(setup, &matrix, 0b011, &[5, 6], &mut secrets), Err(Refusal::Undetermined { position: 1 }));
     assert_eq!(secrets, [9; 3]);
-    assert_eq!(setup.open(&matrix, 0b111, &[5, 6, 7], &mut secrets), Ok(()));
+    assert_eq!(open(setup, &matrix, 0b111, &[5, 6, 7], &mut secrets), Ok(()));
     assert_eq!(secrets, [5, 7, 6]);
 }
 
@@ -313,4 +363,28 @@ fn mapped_records() {
     assert_eq!(SETUP.read_mapped_dealing(high, &mut g, &mut h, &mut [9; 2]), Err(Refusal::Length));
     assert_eq!(SETUP.read_mapped_dealing(b"DL", &mut g, &mut h, &mut phi), Err(Refusal::Mark));
     assert_eq!((g, h, phi), ([9; 2], [9; 2], [9]));
+}
+
+#[test]
+fn zero_records() {
+    let mut out = [9; 12];
+    let mut write = |dealing, holder, h: &[u16]| {
+        let answer = SETUP.write_zero_dealing(&DealingRecord { dealing, holder }, &[5, 2], h, &mut out);
+        assert_eq!(out, [9; 12]);
+        answer
+    };
+    assert_eq!(write(0, 3, &[7, 7]), Err(Refusal::Length));
+    assert_eq!(write(0, 3, &[7]), Err(Refusal::Element));
+    assert_eq!(write(0, 3, &[3]), Err(Refusal::Range));
+    assert_eq!(write(0, 1, &[3]), Err(Refusal::DealingNumber));
+    // A DL's length is not a DZ's.
+    assert_eq!(SETUP.write_zero_dealing(&DealingRecord { dealing: 1, holder: 1 }, &[5, 2], &[3], &mut [9; 14]), Err(Refusal::Length));
+
+    let (mut g, mut h) = ([9; 2], [9]);
+    let high = b"DZ\x01\0\x01\0\x05\0\x02\0\x07\0";
+    assert_eq!(SETUP.read_zero_dealing(high, &mut g, &mut h), Err(Refusal::Element));
+    assert_eq!(SETUP.read_zero_dealing(&high[..11], &mut g, &mut h), Err(Refusal::Length));
+    assert_eq!(SETUP.read_zero_dealing(high, &mut g, &mut [9; 2]), Err(Refusal::Length));
+    assert_eq!(SETUP.read_zero_dealing(b"DL", &mut g, &mut h), Err(Refusal::Mark));
+    assert_eq!((g, h), ([9; 2], [9]));
 }

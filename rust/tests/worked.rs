@@ -1,7 +1,8 @@
 //! The worked example of document 01: p 7, ℓ 1, e 1, n 3, points rows (6,2), (5,3), (4,4), F rows (3,1), (5,2).
 
 use mavdrusek::{
-    combine, Judgement, MappedParts, MappedSecrets, Outcome, Refusal, Rehearsal, SetJudgement, SetKind, Setup, Verdict, PRIMES,
+    combine, refresh, Judgement, MappedParts, MappedSecrets, Outcome, Refusal, Rehearsal, SetJudgement, SetKind, Setup, Share, Shares,
+    Verdict, PRIMES,
 };
 
 const SETUP: Setup = Setup { p: 7, l: 1, e: 1, n: 3 };
@@ -13,6 +14,10 @@ const HS: [u16; 6] = [6, 6, 4, 3, 2, 0];
 const DEALT: MappedSecrets = MappedSecrets { secrets: &[3], random: &[1, 5, 2], phi: &[2], random2: &[4, 1] };
 const GS2: [u16; 6] = [2, 0, 0, 6, 5, 5];
 const HS2: [u16; 6] = [5, 5, 1, 2, 4, 6];
+
+/// A zero dealing by the random entries 6, 1: its F has the rows (0,0), (6,1).
+const ZERO_GS: [u16; 6] = [5, 2, 4, 3, 3, 4];
+const ZERO_HS: [u16; 3] = [3, 5, 0];
 
 #[test]
 fn points() {
@@ -88,7 +93,7 @@ fn mapped_columns() {
     for (b, first, second) in [(0, [10, 20], [80, 100]), (1, [30, 40], [180, 200])] {
         let open = |gs: &[u16]| {
             let (shares, mut secrets) = ([gs[b], gs[6 + b], gs[9 + b]], [0; 2]);
-            setup.open(&matrix, 0b1101, &shares, &mut secrets).map(|()| secrets)
+            setup.open(&matrix, 0b1101, &Shares { values: &shares, rounds: &[4; 3] }, &mut secrets).map(|()| secrets)
         };
         assert_eq!((open(&gs), open(&gs2)), (Ok(first), Ok(second)));
     }
@@ -129,9 +134,14 @@ fn judged(setup: Setup, matrix: &[u16], set: u32, position: u16, entries: usize)
     (kind, steps, out[..entries].to_vec())
 }
 
+/// Opens shares of round 0.
 fn open(set: u32, shares: &[u16]) -> Result<u16, Refusal> {
+    open_at(set, shares, &vec![0; shares.len()])
+}
+
+fn open_at(set: u32, values: &[u16], rounds: &[u16]) -> Result<u16, Refusal> {
     let mut secret = [9];
-    let answer = SETUP.open(&MATRIX, set, shares, &mut secret);
+    let answer = SETUP.open(&MATRIX, set, &Shares { values, rounds }, &mut secret);
     if answer.is_err() {
         assert_eq!(secret, [9]);
     }
@@ -154,7 +164,8 @@ fn unit_row() {
     let mut secret = [9];
     assert_eq!(setup.private(&[1, 0], 0b1), Ok(false));
     assert_eq!(judged(setup, &[1, 0], 0b1, 0, 1), (SetKind::Row, 0, vec![1]));
-    assert_eq!((setup.open(&[1, 0], 0b1, &[5], &mut secret), secret), (Ok(()), [5]));
+    let shares = Shares { values: &[5], rounds: &[65535] };
+    assert_eq!((setup.open(&[1, 0], 0b1, &shares, &mut secret), secret), (Ok(()), [5]));
 }
 
 /// A supplier's matrix with the row (1, 0, .., 0): holder 0 reads position 0 and no other, so that it is not private, though e is 3, and another is.
@@ -177,12 +188,86 @@ fn honest_openers() {
     assert_eq!(open(0b111, &[0, 2, 5]), Err(Refusal::Inconsistent));
 }
 
+/// The value and the round of a combination of shares of these rounds.
+fn combined(p: u16, constants: &[u16], values: &[u16], rounds: &[u16]) -> Result<(u16, u16), Refusal> {
+    combine(p, constants, &Shares { values, rounds }).map(|share| (share.value, share.round))
+}
+
 #[test]
 fn combinations() {
-    let doubled: Vec<u16> = [0, 2, 4].iter().map(|&share| combine(7, &[2], &[share]).unwrap()).collect();
+    let doubled: Vec<u16> = [0, 2, 4].iter().map(|&share| combined(7, &[2], &[share], &[0]).unwrap().0).collect();
     assert_eq!(doubled, [0, 4, 1]);
     assert_eq!(open(0b111, &doubled), Ok(6));
-    assert_eq!(combine(7, &[1, 6, 3], &[5, 2, 4]), Ok(1)); // 5 + 12 + 12 = 29
+    assert_eq!(combined(7, &[1, 6, 3], &[5, 2, 4], &[65535; 3]), Ok((1, 65535)));
+    // 5 + 12 + 12 = 29
+}
+
+/// The parts of the zero dealing, to all and to each; holder 1's judgement of it; the same values are not those of a dealing.
+#[test]
+fn zero_dealing() {
+    let (mut gs, mut hs) = ([9; 6], [9; 3]);
+    assert_eq!(SETUP.deal_zero_all(&MATRIX, &[6, 1], &mut gs, &mut hs), Ok(()));
+    assert_eq!((gs, hs), (ZERO_GS, ZERO_HS));
+    for i in 0..3 {
+        let (mut g, mut h) = ([9; 2], [9]);
+        assert_eq!(SETUP.deal_zero(&MATRIX, &[6, 1], i as u16, &mut g, &mut h), Ok(()));
+        assert_eq!((&g[..], h[0]), (&ZERO_GS[2 * i..2 * i + 2], ZERO_HS[i]));
+    }
+    let values: Vec<u16> = ZERO_GS.chunks(2).map(|g| SETUP.pair_value(&MATRIX, g, 1).unwrap()).collect();
+    assert_eq!(values, [3, 1, 6]);
+    assert_eq!(SETUP.judge_zero(&MATRIX, &[5], &values), Ok(Judgement::Accept));
+    assert_eq!(SETUP.judge_zero(&MATRIX, &[5], &[3, 2, 0]), Ok(Judgement::Reject(1)));
+    assert_eq!(SETUP.judge_zero(&MATRIX, &[4], &values), Ok(Judgement::Reject(0)));
+    // The dealing of the secret 3 is none of zeros, whatever h it comes with.
+    for h in 0..7 {
+        assert!(matches!(SETUP.judge_zero(&MATRIX, &[h], &[2, 1, 0]), Ok(Judgement::Reject(_))));
+    }
+    for set in [0b011, 0b101, 0b110, 0b111u32] {
+        let shares: Vec<u16> = (0..3).filter(|i| set >> i & 1 == 1).map(|i| ZERO_GS[2 * i]).collect();
+        assert_eq!(open(set, &shares), Ok(0));
+    }
+}
+
+/// Fresh shares open to the old secret, at their own round only: each old share among them is refused by its round, and under theirs as a false one.
+#[test]
+fn refreshed() {
+    let old = [0, 2, 4];
+    for round in [0, 1, 65534] {
+        let fresh = [0, 1, 2].map(|i| refresh(7, &Share { value: old[i], round }, ZERO_GS[2 * i]).unwrap());
+        assert!(fresh.iter().all(|share| share.round == round + 1));
+        let values = fresh.map(|share| share.value);
+        assert_eq!(values, [5, 6, 0]);
+        assert_eq!(open_at(0b111, &values, &[round + 1; 3]), Ok(3));
+        assert_eq!(open_at(0b101, &[values[0], values[2]], &[round + 1; 2]), Ok(3));
+        for at in 0..3 {
+            let (mut mixed, mut rounds) = (values, [round + 1; 3]);
+            (mixed[at], rounds[at]) = (old[at], round);
+            assert_eq!(open_at(0b111, &mixed, &rounds), Err(Refusal::Rounds));
+            assert_eq!(open_at(0b111, &mixed, &[round; 3]), Err(Refusal::Inconsistent));
+        }
+    }
+    assert!(refresh(7, &Share { value: 0, round: 65535 }, 0) == Err(Refusal::LastRound));
+    // a combination of fresh shares, and of a fresh and an old one
+    assert_eq!(combined(7, &[2, 3], &[5, 5], &[1, 1]), Ok((4, 1)));
+    assert_eq!(combined(7, &[2, 3], &[5, 0], &[1, 0]), Err(Refusal::Rounds));
+}
+
+/// 19 comes after 5 and before 6 and 7.
+#[test]
+fn rounds() {
+    assert_eq!(open_at(0b111, &[0, 2, 4], &[9, 9, 9]), Ok(3));
+    for rounds in [[8, 9, 9], [9, 8, 9], [9, 9, 8], [9, 9, 10], [0, 0, 65535]] {
+        assert_eq!(open_at(0b111, &[0, 2, 4], &rounds), Err(Refusal::Rounds));
+        assert_eq!(open_at(0b111, &[0, 2, 5], &rounds), Err(Refusal::Rounds));
+        assert_eq!(open_at(0b111, &[0, 2, 7], &rounds), Err(Refusal::Element));
+        assert_eq!(open_at(0b1011, &[0, 2, 4], &rounds), Err(Refusal::Range));
+        assert_eq!(open_at(0b111, &[0, 2, 4], &rounds[..2]), Err(Refusal::Length));
+        assert_eq!(combined(7, &[1; 3], &[0, 2, 4], &rounds), Err(Refusal::Rounds));
+    }
+    // two holders that determine nothing
+    let (setup, matrix) = (Setup { p: 7, l: 1, e: 2, n: 2 }, [1, 1, 0, 1, 0, 1]);
+    let open = |rounds: &[u16]| setup.open(&matrix, 0b11, &Shares { values: &[0, 0], rounds }, &mut [9]);
+    assert_eq!((open(&[1, 1]), open(&[1, 2])), (Err(Refusal::Undetermined { position: 0 }), Err(Refusal::Rounds)));
 }
 
 /// The sum of no columns: its share is 0 over every field, and every set that determines the secret opens it to 0, whatever was lent. A liar beside such
@@ -190,9 +275,9 @@ fn combinations() {
 #[test]
 fn no_columns() {
     for p in PRIMES {
-        assert_eq!(combine(p, &[], &[]), Ok(0));
+        assert_eq!(combined(p, &[], &[], &[]), Ok((0, 0)));
     }
-    let share = combine(7, &[], &[]).unwrap();
+    let (share, _) = combined(7, &[], &[], &[]).unwrap();
     for set in [0b011, 0b101, 0b110, 0b111u32] {
         assert_eq!(open(set, &vec![share; set.count_ones() as usize]), Ok(0));
     }
@@ -251,7 +336,7 @@ fn limits() {
     };
     assert_eq!((with(8, 1), with(9, 1)), (Ok(()), Err(Refusal::Limits)));
     assert_eq!((with(1, 32), with(1, 33)), (Ok(()), Err(Refusal::Limits)));
-    assert_eq!((combine(7, &[6], &[6]), combine(7, &[6], &[7])), (Ok(1), Err(Refusal::Element)));
+    assert_eq!((combined(7, &[6], &[6], &[7]), combined(7, &[6], &[7], &[7])), (Ok((1, 7)), Err(Refusal::Element)));
     let points = |n: u16| Setup { n, ..SETUP }.points(&mut vec![0; 2 * n as usize]);
     assert_eq!((points(5), points(6)), (Ok(()), Err(Refusal::TooFewPoints)));
 }

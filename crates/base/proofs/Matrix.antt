@@ -7,12 +7,12 @@ use mathlib.Core.Path.{_≡_}
 use native.Mathlib.Nat.{mul-le-mul-right, suc-mul, mul-zero, mod-lt, div-lt-iff-lt-mul}
 use native.Mathlib.Decide.{decLt}
 use native.Mathlib.Omega.{arith}
-use lib.Dec.{ltb}
+use lib.Dec.{eqb, ltb}
 use lib.ListN.{length, getD, set, replicate, length-replicate, getD-replicate, List·getD-eq-default}
 use lib.Seq.{getD-set-same, getD-set-other, set-out}
-use borrow.Author.Tests.{ltb-true, lt-ltb}
+use borrow.Author.Tests.{eqb-true, eq-eqb, ltb-true, lt-ltb}
 use Rattle.base.specs.Fill.{tab, laid, filled}
-use Rattle.base.specs.Matrix.{Below, allBelow}
+use Rattle.base.specs.Matrix.{Below, allBelow, allAre}
 use Rattle.base.proofs.Choice.{either}
 use Rattle.base.proofs.Fill.{getD-tab, length-tab, length-filled, getD-filled, getD-filled-past}
 use Rattle.base.proofs.Search.{every-at, every-all}
@@ -89,6 +89,14 @@ below-by p l pos t k = go (decLt k (length l))
 pub below-is : (p : ℕ) (l : List ℕ) → ((k : ℕ) → k < length l → getD l k 0 < p) → allBelow p l ≡ true
 unfolding allBelow
 below-is p l h = every-all (length l) (λ i. ltb (getD l i 0) p) (λ k m. lt-ltb (getD l k 0) p (h k m))
+
+pub are-at : (x : ℕ) (l : List ℕ) → allAre x l ≡ true → (k : ℕ) → k < length l → getD l k 0 ≡ x
+unfolding allAre
+are-at x l t k h = eqb-true (getD l k 0) x (every-at (length l) (λ i. eqb (getD l i 0) x) t k h)
+
+pub are-is : (x : ℕ) (l : List ℕ) → ((k : ℕ) → k < length l → getD l k 0 ≡ x) → allAre x l ≡ true
+unfolding allAre
+are-is x l h = every-all (length l) (λ i. eqb (getD l i 0) x) (λ k m. eq-eqb (getD l k 0) x (h k m))
 
 -- a place of a flat matrix of n rows, by row and column
 pub place-at : (d n t : ℕ) → t < n * d → (0 < d) × (t / d < n) × (t % d < d)

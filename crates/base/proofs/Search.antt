@@ -8,7 +8,7 @@ use Prim.Native.Nat.{ℕ, zero, suc, _+_, _-_, _≤_, _<_}
 use native.Mathlib.Numerals.{add-one}
 use native.Mathlib.Omega.{arith}
 use native.Mathlib.Nat.{not-suc-le-zero, le-of-suc-le-suc}
-use lib.Dec.{ltb}
+use lib.Dec.{eqb, ltb}
 use lib.ListN.{length, getD}
 use borrow.Author.Tests.{ltb-true, ltb-false}
 use Rattle.base.specs.Choice.{pick}
@@ -42,6 +42,21 @@ pub every-ext : (n : ℕ) (t u : ℕ → Bool) → ((i : ℕ) → i < n → t i 
 unfolding every
 every-ext zero t u h = refl
 every-ext (suc n) t u h = rw (every-ext n t u (λ i l. h i (omega arith)), h n (omega arith)) refl
+
+-- a mark that is 0 exactly while every number passed passes: one more passes, or fails
+pub every-passed : (t : ℕ → Bool) (i mark : ℕ) → t i ≡ true → eqb mark 0 ≡ every i t → eqb mark 0 ≡ every (i + 1) t
+every-passed t i mark e h = h ∙ sym (every-step i t ∙ ap (λ b. every i t && b) e ∙ and-true (every i t))
+  where
+    and-true : (b : Bool) → (b && true) ≡ b
+    and-true true = refl
+    and-true false = refl
+
+pub every-failed : (t : ℕ → Bool) (i mark : ℕ) → t i ≡ false → mark ≡ 1 → eqb mark 0 ≡ every (i + 1) t
+every-failed t i mark e h = rw h (sym (every-step i t ∙ ap (λ b. every i t && b) e ∙ and-false (every i t)))
+  where
+    and-false : (b : Bool) → (b && false) ≡ false
+    and-false true = refl
+    and-false false = refl
 
 -- FIRST
 from-is : (t : ℕ → Bool) (k i n : ℕ) → i + k ≡ n → ((j : ℕ) → j < i → t j ≡ false) → First t n (firstFrom t i k)

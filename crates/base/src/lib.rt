@@ -4,7 +4,7 @@ ghost use Prim.Native.Nat.{_+_, _<_, _≤_};
 ghost use lib.ListN.{length, getD};
 ghost use Rattle.base.specs.Rules.{orWhen};
 ghost use Rattle.base.specs.Fill.{laid};
-ghost use Rattle.base.specs.Matrix.{allBelow};
+ghost use Rattle.base.specs.Matrix.{allBelow, allAre};
 
 // One rule of a refusal table: a number that stands already stays, else `number` where its test holds.
 pub fn or_when(standing: u16, number: u16, holds: bool) -> u16
@@ -38,6 +38,21 @@ pub fn all_below(s: &[u16], p: u16) -> bool
         i += 1;
     }
     over == 0
+}
+
+// Whether every entry is x. It reads the whole slice too.
+pub fn all_are(s: &[u16], x: u16) -> bool
+    ensures { λ r. ⌜ r ≡ allAre x (now (s .entry)) ⌝ }
+{
+    let mut other: u16 = 0;
+    let mut i = 0;
+    while i < s.len() {
+        if s[i] != x {
+            other = 1;
+        }
+        i += 1;
+    }
+    other == 0
 }
 
 // Copies n entries of m, from `from` on, into a, from t on.

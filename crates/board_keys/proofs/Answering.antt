@@ -22,7 +22,7 @@ use Rattle.board_keys.proofs.Opened.{determined-seven, failed-fewer, op
 
 pub keys-lowest : KeysLowest
 keys-lowest =
-    record { deal = λ key random gs hs. lowest (dealAllRules keySetup key random gs hs) tt; opening = λ s xs out. lowest (openKeyRules s xs out) tt }
+    record { deal = λ key random gs hs. lowest (dealAllRules keySetup key random gs hs) tt; opening = λ s xs rs out. lowest (openKeyRules s xs rs out) tt }
 
 -- THE MARK
 key-marked : (s : ℕ) (xs : List ℕ) → Marked (keyOpening s xs)
@@ -37,22 +37,22 @@ pub keys-marked : KeysMarked
 keys-marked =
     record {
       deal = λ key random gs hs. all-marked .deal-all keySetup key random gs hs;
-      opening = λ s xs out. marked-by (refusal (openKeyRules s xs out)) (openAnswer (keyOpening s xs)) (key-marked s xs);
+      opening = λ s xs rs out. marked-by (refusal (openKeyRules s xs rs out)) (openAnswer (keyOpening s xs)) (key-marked s xs);
     }
 
 -- INPUTS THAT BREAK NOTHING
-open-answers : (s : ℕ) (xs out : List ℕ) → refusal (openKeyRules s xs out) ≡ 0 → KeyOpenAnswers s xs out
-open-answers s xs out fine = go (keyOpening-is s xs)
+open-answers : (s : ℕ) (xs rs out : List ℕ) → refusal (openKeyRules s xs rs out) ≡ 0 → KeyOpenAnswers s xs rs out
+open-answers s xs rs out fine = go (keyOpening-is s xs)
   where
     -- the call gives the opening's own answer
-    is : (a : Answer) → keyOpening s xs ≡ a → (openKeyCall s xs out .answered ≡ a .answered) × (openKeyCall s xs out .number ≡ a .number)
-    is a e = let r = openKey-gives s xs out a fine e .0 in (ap (λ (x : Answer). x .answered) r, ap (λ (x : Answer). x .number) r)
+    is : (a : Answer) → keyOpening s xs ≡ a → (openKeyCall s xs rs out .answered ≡ a .answered) × (openKeyCall s xs rs out .number ≡ a .number)
+    is a e = let r = openKey-gives s xs rs out a fine e .0 in (ap (λ (x : Answer). x .answered) r, ap (λ (x : Answer). x .number) r)
 
     -- where the number is another
-    other : (a b : ℕ) {Z : Type 0} → openKeyCall s xs out .number ≡ a → eqb a b ≡ false → openKeyCall s xs out .number ≡ b → Z
+    other : (a b : ℕ) {Z : Type 0} → openKeyCall s xs rs out .number ≡ a → eqb a b ≡ false → openKeyCall s xs rs out .number ≡ b → Z
     other a b r d n = absurd (eqb-false a b d (sym r ∙ n))
 
-    by-positions : 7 ≤ memberCount s → AllBehind s xs → keyOpening s xs ≡ keyOf (opened s xs) → (t : Bool) → allBelow 256 (opened s xs) ≡ t → KeyOpenAnswers s xs out
+    by-positions : 7 ≤ memberCount s → AllBehind s xs → keyOpening s xs ≡ keyOf (opened s xs) → (t : Bool) → allBelow 256 (opened s xs) ≡ t → KeyOpenAnswers s xs rs out
     by-positions d h e true t =
         let r = is (given (opened s xs)) (e ∙ rw t refl) in
         record {
@@ -70,7 +70,7 @@ open-answers s xs out fine = go (keyOpening-is s xs)
           sixteen = (λ n. (d, h, t), λ f. r .1);
         }
 
-    go : KeyOpeningIs s xs → KeyOpenAnswers s xs out
+    go : KeyOpeningIs s xs → KeyOpenAnswers s xs rs out
     go (positions d h e) = by-positions (determined-seven s d) h e (allBelow 256 (opened s xs)) refl
     go (no-row d q e) =
         let r = is (undetermined q) e in
@@ -96,5 +96,6 @@ keys-answering =
     record {
       deal = λ key random gs hs k r a b.
           answering .deal-all keySetup key random gs hs key-setup (record { size = k .size; small = λ i l. omega (arith, k .small i l) }) r a b;
-      opening = λ s xs out l v room. open-answers s xs out (openKey-accepts s xs out (record { inside = l; shares = v; room = room }));
+      opening = λ s xs rs out l v k one room.
+          open-answers s xs rs out (openKey-accepts s xs rs out (record { inside = l; shares = v; rounds = k; one-round = one; room = room }));
     }

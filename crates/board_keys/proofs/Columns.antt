@@ -10,7 +10,7 @@ use native.Mathlib.Omega.{arith}
 use borrow.Author.Tests.{eqb-true, eqb-false, not-true, not-false}
 use lib.Dec.{eqb}
 use lib.ListN.{length}
-use Rattle.base.specs.Rules.{refusal, Answer, refused, given, leftBy}
+use Rattle.base.specs.Rules.{Answer, refused, given, leftBy}
 use Rattle.base.specs.Search.{Vec}
 use Rattle.base.specs.Fill.{tab}
 use Rattle.base.specs.Matrix.{entry, Below, allBelow}
@@ -28,9 +28,10 @@ use Rattle.scheme.proofs.Certificates.{opened-in-hand}
 use Rattle.scheme.proofs.PointSets.{node}
 use Rattle.scheme.proofs.Interpolated as paper
 use Rattle.key_values.specs.Inner.{AllAgreed, all, differs, depots, curve, Interpolates}
-use Rattle.board_keys.specs.Keys.{keySetup, memberCount, columnShares, columnOpened, keyOpening, openKeyRules}
+use Rattle.board_keys.specs.Keys.{keySetup, memberCount, columnShares, columnOpened, keyOpening}
+use Rattle.board_keys.specs.Inner.{KeyTaken}
 use Rattle.board_keys.proofs.Setup.{key-points}
-use Rattle.board_keys.proofs.Opened.{key-members, failed-fewer, OpenKeyOk, openKey-ok, few-open, column-at, column-vec, keyOf, four-answered, KeyOpeningIs, positions, no-row, no-vector, keyOpening-is}
+use Rattle.board_keys.proofs.Opened.{key-members, failed-fewer, few-open, column-at, column-vec, keyOf, four-answered, KeyOpeningIs, positions, no-row, no-vector, keyOpening-is}
 
 module _ (s : ℕ) (xs : List ℕ) (inside : s < 2 ^ 16) (many : 7 ≤ memberCount s) (ok : Vec 257 (4 * memberCount s) xs) where
   same : depots s ≡ members 16 (holds s)
@@ -105,10 +106,7 @@ module _ (s : ℕ) (xs : List ℕ) (inside : s < 2 ^ 16) (many : 7 ≤ memberCou
 abbrev pub Ends : (s : ℕ) (xs out : List ℕ) → Answer → List ℕ → Type 0
 Ends s xs out a left = (a ≡ openAnswer (keyOpening s xs)) × (left ≡ leftBy (keyOpening s xs .number) (keyOpening s xs .values) out)
 
-module _ (s : ℕ) (xs out : List ℕ) (clear : refusal (openKeyRules s xs out) ≡ 0) (k : ℕ) (count : k ≡ length (members 32 (holds s))) where
-  ok : OpenKeyOk s xs out
-  ok = openKey-ok s xs out clear
-
+module _ (s : ℕ) (xs out : List ℕ) (ok : KeyTaken s xs out) (k : ℕ) (count : k ≡ length (members 32 (holds s))) where
   counted : k ≡ memberCount s
   counted = count ∙ key-members s (ok .inside)
 

@@ -3,3 +3,4 @@ pub mod Dealing
 pub mod Opened
 pub mod Answering
 pub mod Columns
+pub mod Rounds

@@ -1,7 +1,9 @@
 -- What stands behind the call OPEN A KEY: its table, the columns in the list of shares, and what the four openings make of the key.
 -- seven-determine, determined-seven, fewer-fail, failed-fewer, fewer-rows: which depots determine the secrets
 -- OpenKeyOk: what an accepted call says of its inputs; openKey-ok and openKey-accepts are the two ways
--- openKey-by-shares: all but the shares' elements in order, the refusal is 4 exactly where some share is no field element
+-- openKey-first, openKey-left, openKey-sized: the table but for its last rule, and what it says of the rounds' number where it passes
+-- openKey-by-shares: all but the shares' elements and their rounds in order, the refusal is 4 where some share is no field element, and else 19 where the
+-- rounds of some column differ
 -- column-vec, columns-below, columnShares-flat: a column of the list, and the list of its columns
 -- key-columns: the key from its columns
 -- keyOf: the key from its sixteen positions, or 16
@@ -20,11 +22,11 @@ use lib.Arith.{digits-lt}
 use lib.ListN.{length, getD}
 use borrow.Author.Tests.{lt-ltb, le-leb, leb-true, lt-leb, leb-false, not-true, not-false}
 use Rattle.base.specs.Choice.{pick}
-use Rattle.base.specs.Rules.{Rule, _when_, refusal, Answer, refused, given, leftBy}
-use Rattle.base.specs.Search.{first, First, found, missing, Vec}
+use Rattle.base.specs.Rules.{Rule, _when_, orWhen, refusal, Answer, refused, given, leftBy}
+use Rattle.base.specs.Search.{every, first, First, found, missing, Vec}
 use Rattle.base.specs.Fill.{tab}
 use Rattle.base.specs.Matrix.{entry, flat, allBelow}
-use Rattle.base.proofs.Rules.{refusal-after, declined, unchanged}
+use Rattle.base.proofs.Rules.{refusal-after, clear, declined, unchanged}
 use Rattle.base.proofs.Search.{first-is, first-found, first-missing}
 use Rattle.base.proofs.Fill.{length-tab, getD-tab, tab-is, tab-ext, tab-vec, flat-at}
 use Rattle.base.proofs.Matrix.{below-is, place-at}
@@ -32,13 +34,14 @@ use Rattle.field.specs.Dot.{at}
 use Rattle.scheme.specs.Answers.{undetermined, inconsistent}
 use Rattle.scheme.specs.Answering.{Behind}
 use Rattle.scheme.specs.Sets.{holds, members, hasRow, determines}
+use Rattle.scheme.specs.Opening.{agree}
 use Rattle.scheme.specs.Calls.{Lent, elements, room, limits, size, beyondField, sizes, inField, beyond, openAnswer}
 use Rattle.scheme.proofs.PointSets.{point-sets}
 use Rattle.scheme.proofs.Members.{members-wide}
-use Rattle.scheme.proofs.Calls.{limits-clear, SetOk, in-order, by-own, accepts}
+use Rattle.scheme.proofs.Calls.{limits-clear, size-is, SetOk, in-order, by-own}
 use Rattle.scheme.proofs.Certificates.{undetermined-in-hand}
 use Rattle.scheme.proofs.Answering.{OpeningIs, secrets, by-six, by-seven, opening-is}
-use Rattle.board_keys.specs.Keys.{keySetup, memberCount, columnShares, columnOpened, opened, keyOpening, openKeyRules, openKeyCall, openKeyLeft}
+use Rattle.board_keys.specs.Keys.{keySetup, memberCount, columnShares, columnOpened, opened, columnsAgree, keyOpening, openKeyRules, openKeyCall, openKeyLeft}
 use Rattle.board_keys.specs.Answering.{AllBehind}
 use Rattle.board_keys.proofs.Setup.{key-points, key-limits, key-setup}
 
@@ -68,54 +71,83 @@ pub key-members : (s : ℕ) → s < 2 ^ 16 → length (members 32 (holds s)) ≡
 key-members s l = ap length (members-wide 16 32 s l (omega arith))
 
 -- THE TABLE
-pub record OpenKeyOk (s : ℕ) (xs out : List ℕ) : Type 0 where
+pub record OpenKeyOk (s : ℕ) (xs rs out : List ℕ) : Type 0 where
   pub inside : s < 2 ^ 16
   pub shares : Vec 257 (4 * memberCount s) xs
+  pub rounds : length rs ≡ 4 * memberCount s
+  pub one-round : columnsAgree s rs ≡ true
   pub room : length out ≡ 16
 
-module _ (s : ℕ) (xs out : List ℕ) where
+module _ (s : ℕ) (xs rs out : List ℕ) where
   abbrev openKey-lent : List Lent
-  openKey-lent = elements xs (4 * length (members 32 (holds s))) ∷ room (length out) 16 ∷ []
+  openKey-lent =
+      elements xs (4 * length (members 32 (holds s))) ∷ room (length rs) (4 * length (members 32 (holds s))) ∷ room (length out) 16 ∷ []
 
   abbrev openKey-own : List Rule
-  openKey-own = (5 when beyond 16 s) ∷ []
+  openKey-own = (5 when beyond 16 s) ∷ (19 when not (columnsAgree s rs)) ∷ []
+
+  -- all rules but the last, on the rounds
+  abbrev pub openKey-first : List Rule
+  openKey-first =
+      size (length xs) (4 * length (members 32 (holds s)))
+      ∷ size (length rs) (4 * length (members 32 (holds s))) ∷ size (length out) 16 ∷ beyondField 257 xs ∷ (5 when beyond 16 s) ∷ []
 
   -- no rule on the setup can apply
-  pub openKey-left : refusal (openKeyRules s xs out)
-      ≡ refusal (size (length xs) (4 * length (members 32 (holds s))) ∷ size (length out) 16 ∷ beyondField 257 xs ∷ openKey-own)
+  pub openKey-left : refusal (openKeyRules s xs rs out) ≡ orWhen (refusal openKey-first) 19 (not (columnsAgree s rs))
   openKey-left = refusal-after (limits keySetup) (sizes openKey-lent ++ (inField 257 openKey-lent ++ openKey-own)) (limits-clear keySetup key-limits)
 
-  pub openKey-ok : refusal (openKeyRules s xs out) ≡ 0 → OpenKeyOk s xs out
+  pub openKey-sized : refusal openKey-first ≡ 0 → (length rs ≡ 4 * length (members 32 (holds s))) × (s < 2 ^ 16)
+  openKey-sized e =
+      let c = clear openKey-first tt e in
+      (size-is (length rs) (4 * length (members 32 (holds s))) (c .1 .0), leb-false (2 ^ 16) s (c .1 .1 .1 .1 .0))
+
+  pub openKey-ok : refusal (openKeyRules s xs rs out) ≡ 0 → OpenKeyOk s xs rs out
   openKey-ok e =
       let r = in-order keySetup openKey-lent openKey-own tt e in
       let l : s < 2 ^ 16 = leb-false (2 ^ 16) s (r .own .0) in
-      record { inside = l; shares = rw (key-members s l) at (r .lent .0); room = r .lent .1 .0 }
+      record {
+        inside = l;
+        shares = rw (key-members s l) at (r .lent .0);
+        rounds = rw (key-members s l) at (r .lent .1 .0);
+        one-round = not-false (columnsAgree s rs) (r .own .1 .0);
+        room = r .lent .1 .1 .0;
+      }
 
-  pub openKey-accepts : OpenKeyOk s xs out → refusal (openKeyRules s xs out) ≡ 0
-  openKey-accepts k =
-      accepts keySetup openKey-lent openKey-own key-limits (rw (key-members s (k .inside)) (k .shares), (k .room, tt)) (lt-leb (2 ^ 16) s (k .inside), tt)
-
-  pub openKey-by-shares : s < 2 ^ 16 → length xs ≡ 4 * memberCount s → length out ≡ 16 → refusal (openKeyRules s xs out) ≡ pick (allBelow 257 xs) 0 4
-  openKey-by-shares l a b =
-      by-own keySetup (room (length xs) (4 * length (members 32 (holds s))) ∷ room (length out) 16 ∷ []) (beyondField 257 xs ∷ openKey-own) key-limits
-      (rw (key-members s l) a, (b, tt))
-      ∙ rw (lt-leb (2 ^ 16) s l) (last (allBelow 257 xs))
+  pub openKey-by-shares : s < 2 ^ 16 → length xs ≡ 4 * memberCount s → length rs ≡ 4 * memberCount s → length out ≡ 16
+      → refusal (openKeyRules s xs rs out) ≡ pick (allBelow 257 xs) (pick (columnsAgree s rs) 0 19) 4
+  openKey-by-shares l a r b =
+      by-own keySetup
+      (room (length xs) (4 * length (members 32 (holds s))) ∷ room (length rs) (4 * length (members 32 (holds s))) ∷ room (length out) 16 ∷ [])
+      (beyondField 257 xs ∷ openKey-own) key-limits
+      (rw (key-members s l) a, (rw (key-members s l) r, (b, tt)))
+      ∙ rw (lt-leb (2 ^ 16) s l) (last (allBelow 257 xs) (columnsAgree s rs))
     where
-      last : (b : Bool) → refusal ((4 when not b) ∷ (5 when false) ∷ []) ≡ pick b 0 4
-      last true = refl
-      last false = refl
+      last : (b c : Bool) → refusal ((4 when not b) ∷ (5 when false) ∷ (19 when not c) ∷ []) ≡ pick b (pick c 0 19) 4
+      last true true = refl
+      last true false = refl
+      last false c = refl
+
+  pub openKey-accepts : OpenKeyOk s xs rs out → refusal (openKeyRules s xs rs out) ≡ 0
+  openKey-accepts k =
+      openKey-by-shares (k .inside) (k .shares .size) (k .rounds) (k .room)
+      ∙ rw (below-is 257 xs (λ t m. k .shares .small t (omega (arith, m, k .shares .size))), k .one-round) refl
 
   -- what the call answers and leaves where its table passes
-  pub openKey-gives : (a : Answer) → refusal (openKeyRules s xs out) ≡ 0 → keyOpening s xs ≡ a
-      → (openKeyCall s xs out ≡ openAnswer a) × (openKeyLeft s xs out ≡ leftBy (a .number) (a .values) out)
+  pub openKey-gives : (a : Answer) → refusal (openKeyRules s xs rs out) ≡ 0 → keyOpening s xs ≡ a
+      → (openKeyCall s xs rs out ≡ openAnswer a) × (openKeyLeft s xs rs out ≡ leftBy (a .number) (a .values) out)
   openKey-gives a z e = rw (z, e) (refl, refl)
 
   -- and where it does not
-  pub openKey-declines : (r : ℕ) → (r ≡ 0 → ⊥) → refusal (openKeyRules s xs out) ≡ r → (openKeyCall s xs out ≡ refused r) × (openKeyLeft s xs out ≡ out)
+  pub openKey-declines : (r : ℕ) → (r ≡ 0 → ⊥) → refusal (openKeyRules s xs rs out) ≡ r
+      → (openKeyCall s xs rs out ≡ refused r) × (openKeyLeft s xs rs out ≡ out)
   openKey-declines r n e = rw e (sym (declined r _ n), sym (unchanged r _ _ n))
 
 -- COLUMNS OF THE LIST
 module _ (s : ℕ) where
+  pub columns-counted : (rs : List ℕ) (k : ℕ) → k ≡ memberCount s → every 4 (λ b. agree (tab k (entry k rs b))) ≡ columnsAgree s rs
+  unfolding columnShares
+  columns-counted rs k e = ap (λ k. every 4 (λ b. agree (tab k (entry k rs b)))) e
+
   pub column-at : (xs : List ℕ) (b a : ℕ) → a < memberCount s → at (columnShares s xs b) a ≡ entry (memberCount s) xs b a
   unfolding columnShares
   column-at xs b a l = getD-tab (memberCount s) (entry (memberCount s) xs b) 0 a l

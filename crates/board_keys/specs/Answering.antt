@@ -15,27 +15,28 @@ use Rattle.base.specs.Search.{Vec}
 use Rattle.base.specs.Matrix.{allBelow}
 use Rattle.scheme.specs.Calls.{dealAllRules}
 use Rattle.scheme.specs.Answering.{Marked, Answers, Behind}
-use Rattle.board_keys.specs.Keys.{keySetup, dealKeyCall, memberCount, columnShares, opened, openKeyRules, openKeyCall}
+use Rattle.board_keys.specs.Keys.{keySetup, dealKeyCall, memberCount, columnShares, columnsAgree, opened, openKeyRules, openKeyCall}
 
 pub record KeysLowest : Type 0 where
   pub deal : (key random gs hs : List ℕ) → Lowest (dealAllRules keySetup key random gs hs)
-  pub opening : (s : ℕ) (xs out : List ℕ) → Lowest (openKeyRules s xs out)
+  pub opening : (s : ℕ) (xs rs out : List ℕ) → Lowest (openKeyRules s xs rs out)
 
 pub record KeysMarked : Type 0 where
   pub deal : (key random gs hs : List ℕ) → Marked (dealKeyCall key random gs hs)
-  pub opening : (s : ℕ) (xs out : List ℕ) → Marked (openKeyCall s xs out)
+  pub opening : (s : ℕ) (xs rs out : List ℕ) → Marked (openKeyCall s xs rs out)
 
 -- some vector gives every share of each column
 abbrev pub AllBehind : ℕ → List ℕ → Type 0
 AllBehind s xs = (b : ℕ) → b < 4 → Behind keySetup s (columnShares s xs b)
 
 -- 7 in any column comes before a 256 in any other
-pub record KeyOpenAnswers (s : ℕ) (xs out : List ℕ) : Type 0 where
-  pub answers : Answers (openKeyCall s xs out) ↔ ((7 ≤ memberCount s) × AllBehind s xs × (allBelow 256 (opened s xs) ≡ true))
-  pub six : (openKeyCall s xs out .number ≡ 6) ↔ (memberCount s < 7)
-  pub seven : (openKeyCall s xs out .number ≡ 7) ↔ ((7 ≤ memberCount s) × (AllBehind s xs → ⊥))
-  pub sixteen : (openKeyCall s xs out .number ≡ 16) ↔ ((7 ≤ memberCount s) × AllBehind s xs × (allBelow 256 (opened s xs) ≡ false))
+pub record KeyOpenAnswers (s : ℕ) (xs rs out : List ℕ) : Type 0 where
+  pub answers : Answers (openKeyCall s xs rs out) ↔ ((7 ≤ memberCount s) × AllBehind s xs × (allBelow 256 (opened s xs) ≡ true))
+  pub six : (openKeyCall s xs rs out .number ≡ 6) ↔ (memberCount s < 7)
+  pub seven : (openKeyCall s xs rs out .number ≡ 7) ↔ ((7 ≤ memberCount s) × (AllBehind s xs → ⊥))
+  pub sixteen : (openKeyCall s xs rs out .number ≡ 16) ↔ ((7 ≤ memberCount s) × AllBehind s xs × (allBelow 256 (opened s xs) ≡ false))
 
 pub record KeysAnswering : Type 0 where
   pub deal : (key random gs hs : List ℕ) → Vec 256 16 key → Vec 257 33 random → length gs ≡ 112 → length hs ≡ 112 → Answers (dealKeyCall key random gs hs)
-  pub opening : (s : ℕ) (xs out : List ℕ) → s < 2 ^ 16 → Vec 257 (4 * memberCount s) xs → length out ≡ 16 → KeyOpenAnswers s xs out
+  pub opening : (s : ℕ) (xs rs out : List ℕ) → s < 2 ^ 16 → Vec 257 (4 * memberCount s) xs → length rs ≡ 4 * memberCount s → columnsAgree s rs ≡ true
+      → length out ≡ 16 → KeyOpenAnswers s xs rs out

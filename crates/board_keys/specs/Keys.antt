@@ -2,26 +2,27 @@
 -- of the product, over the definitions of document 01's calls (crate scheme, specs/Calls.antt).
 -- keySetup: the setup of every board key
 -- dealKeyCall, dealKeyLeftG, dealKeyLeftH: DEAL A KEY, and what it leaves in the lent buffers
--- columnShares: the shares of one column in the list that an opening takes
+-- columnShares: the shares of one column in the list that an opening takes, or their rounds
 -- columnOpened: the opening of that column
 -- opened: the sixteen positions opened, in the order of the key's bytes
+-- columnsAgree: the rounds of each column agree
 -- keyOpening: the key as values, or the first refusal of the four openings, or 16
 -- openKeyRules, openKeyCall, openKeyLeft: OPEN A KEY
-use mathlib.Core.Bool.{not}
+use mathlib.Core.Bool.{Bool, not}
 use mathlib.Core.List.{List, [], _∷_}
 use Prim.Native.Nat.{ℕ, _*_}
 use lib.Dec.{ltb}
 use lib.ListN.{length}
 use Rattle.base.specs.Choice.{pick}
 use Rattle.base.specs.Rules.{Rule, _when_, refusal, Answer, refused, given, answerBy, leftBy}
-use Rattle.base.specs.Search.{first}
+use Rattle.base.specs.Search.{every, first}
 use Rattle.base.specs.Fill.{tab}
 use Rattle.base.specs.Matrix.{entry, flat, allBelow}
 use Rattle.field.specs.Dot.{at}
 use Rattle.scheme.specs.Setup.{Setup}
 use Rattle.scheme.specs.Points.{pointsMatrix}
 use Rattle.scheme.specs.Sets.{holds, members}
-use Rattle.scheme.specs.Opening.{opening}
+use Rattle.scheme.specs.Opening.{opening, agree}
 use Rattle.scheme.specs.Calls.{elements, room, table, beyond, dealAllCall, dealAllLeftG, dealAllLeftH, openAnswer}
 
 abbrev pub keySetup : Setup
@@ -38,7 +39,7 @@ dealKeyLeftG key random gs hs = dealAllLeftG keySetup key random gs hs
 abbrev pub dealKeyLeftH : (key random gs hs : List ℕ) → List ℕ
 dealKeyLeftH key random gs hs = dealAllLeftH keySetup key random gs hs
 
--- OPEN A KEY, by the set s and its shares: those of column 0 by rising holder, then those of columns 1, 2 and 3
+-- OPEN A KEY, by the set s, its shares, those of column 0 by rising holder, then those of columns 1, 2 and 3, and their rounds in the same order
 abbrev pub memberCount : ℕ → ℕ
 memberCount s = length (members 16 (holds s))
 
@@ -58,13 +59,18 @@ keyOpening s xs =
     let b = first (λ b. not (columnOpened s xs b .answered)) 4 in
     pick (ltb b 4) (columnOpened s xs b) (pick (allBelow 256 (opened s xs)) (given (opened s xs)) (refused 16))
 
-abbrev pub openKeyRules : ℕ → (xs out : List ℕ) → List Rule
-openKeyRules s xs out =
-    table keySetup (elements xs (4 * length (members 32 (holds s))) ∷ room (length out) 16 ∷ []) ((5 when beyond 16 s) ∷ [])
+-- "Shares combined or opened together come with their rounds, which must agree, in a key column by column" (document 02, A8)
+abbrev pub columnsAgree : ℕ → List ℕ → Bool
+columnsAgree s rs = every 4 (λ b. agree (columnShares s rs b))
 
-abbrev pub openKeyCall : ℕ → (xs out : List ℕ) → Answer
-openKeyCall s xs out = answerBy (refusal (openKeyRules s xs out)) (openAnswer (keyOpening s xs))
+abbrev pub openKeyRules : ℕ → (xs rs out : List ℕ) → List Rule
+openKeyRules s xs rs out =
+    let k = 4 * length (members 32 (holds s)) in
+    table keySetup (elements xs k ∷ room (length rs) k ∷ room (length out) 16 ∷ []) ((5 when beyond 16 s) ∷ (19 when not (columnsAgree s rs)) ∷ [])
 
-abbrev pub openKeyLeft : ℕ → (xs out : List ℕ) → List ℕ
-openKeyLeft s xs out =
-    leftBy (refusal (openKeyRules s xs out)) (leftBy (keyOpening s xs .number) (keyOpening s xs .values) out) out
+abbrev pub openKeyCall : ℕ → (xs rs out : List ℕ) → Answer
+openKeyCall s xs rs out = answerBy (refusal (openKeyRules s xs rs out)) (openAnswer (keyOpening s xs))
+
+abbrev pub openKeyLeft : ℕ → (xs rs out : List ℕ) → List ℕ
+openKeyLeft s xs rs out =
+    leftBy (refusal (openKeyRules s xs rs out)) (leftBy (keyOpening s xs .number) (keyOpening s xs .values) out) out

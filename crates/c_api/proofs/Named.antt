@@ -1,4 +1,4 @@
--- The judgement of one dealing names a holder wherever it rejects: `reject map` is none of its answers.
+-- The judgement of one dealing, or of a zero dealing, names a holder wherever it rejects: `reject map` is none of its answers.
 use mathlib.Core.Bool.{Bool, true, false}
 use mathlib.Core.List.{List}
 use mathlib.Core.Path.{_≡_, refl}
@@ -10,8 +10,8 @@ use Rattle.base.specs.Search.{first}
 use Rattle.scheme.specs.Setup.{Setup}
 use Rattle.scheme.specs.Answers.{paperJudgement}
 use Rattle.scheme.specs.declared.Judgement.the-variants.{Accept, Reject}
-use Rattle.scheme.specs.Dealing.{differs, judgementOf}
-use Rattle.scheme.specs.Calls.{judgeRules, judgeCall}
+use Rattle.scheme.specs.Dealing.{differs, judgementOf, differsZero, judgementZero}
+use Rattle.scheme.specs.Calls.{judgeRules, judgeCall, judgeZeroRules, judgeZeroCall}
 use Rattle.c_api.specs.Exported.{place, namedPlace}
 
 names : (k : ℕ) (b : Bool) (j old : ℕ)
@@ -25,3 +25,9 @@ unfolding judgementOf
 judge-names S h values old =
     let j = first (differs S h values) (S .n) in
     names (refusal (judgeRules S h values)) (ltb j (S .n)) j old
+
+pub judge-zero-names : (S : Setup) (h values : List ℕ) (old : ℕ) → namedPlace (judgeZeroCall S h values) old ≡ place 1 (judgeZeroCall S h values) old
+unfolding judgementZero
+judge-zero-names S h values old =
+    let j = first (differsZero S h values) (S .n) in
+    names (refusal (judgeZeroRules S h values)) (ltb j (S .n)) j old

@@ -5,12 +5,15 @@ ghost use mathlib.Core.List.{[]};
 ghost use Rattle.field.specs.Fields.{fieldAnswer};
 ghost use Rattle.scheme.specs.Calls.{pointsCall, pointsLeft, dealCall, dealLeftG, dealLeftH, dealAllCall, dealAllLeftG, dealAllLeftH};
 ghost use Rattle.scheme.specs.Calls.{buffers, dealMappedCall, dealMappedLeft, dealMappedAllCall, dealMappedAllLeft};
-ghost use Rattle.scheme.specs.Calls.{pairValueCall, judgeCall, judgeMappedCall, outcomeCall, outcomeLeft, rehearseCall, combineCall};
+ghost use Rattle.scheme.specs.Calls.{dealZeroCall, dealZeroLeftG, dealZeroLeftH, dealZeroAllCall, dealZeroAllLeftG, dealZeroAllLeftH};
+ghost use Rattle.scheme.specs.Calls.{pairValueCall, judgeCall, judgeMappedCall, judgeZeroCall, outcomeCall, outcomeLeft, rehearseCall};
+ghost use Rattle.scheme.specs.Calls.{combineCall, refreshCall};
 ghost use Rattle.scheme.specs.Calls.{determinesCall, privateCall, judgeSetCall, openCall, openLeft};
-ghost use Rattle.scheme.specs.Answers.{paperJudged, paperOpened};
+ghost use Rattle.scheme.specs.Answers.{paperJudged, paperShare, paperOpened};
 ghost use Rattle.board_keys.specs.Keys.{dealKeyCall, dealKeyLeftG, dealKeyLeftH, openKeyCall, openKeyLeft};
 ghost use Rattle.record_layouts.specs.Records.{writeSetupCall, writeSetupLeft, writeDealingCall, writeDealingLeft, writePairCall, writePairLeft};
 ghost use Rattle.record_layouts.specs.Records.{writeMappedCall, writeMappedLeft, writeMappedPairCall, writeMappedPairLeft};
+ghost use Rattle.record_layouts.specs.Records.{writeZeroCall, writeZeroLeft, readZeroCall, readZeroLeftG, readZeroLeftH};
 ghost use Rattle.record_layouts.specs.Records.{writeVerdictCall, writeVerdictLeft, writeShareCall, writeShareLeft};
 ghost use Rattle.record_layouts.specs.Records.{readSetupCall, readMatrixCall, readMatrixLeft, readDealingCall, readDealingLeftG, readDealingLeftH};
 ghost use Rattle.record_layouts.specs.Records.{readMappedCall, readMappedLeftG, readMappedLeftH, readMappedLeftPhi, readMappedPairCall};
@@ -40,6 +43,7 @@ use scheme::Params;
 use scheme::Rehearsal;
 use scheme::SetJudged;
 use scheme::Settled;
+use scheme::Share;
 use scheme::Value;
 
 // Whether p is one of the five fields' numbers.
@@ -178,6 +182,47 @@ pub extern "C" fn mavdrusek_deal_mapped_all(
     ))
 }
 
+// One holder's part of a zero dealing.
+#[no_mangle]
+pub extern "C" fn mavdrusek_deal_zero(
+    p: u16,
+    l: u16,
+    e: u16,
+    n: u16,
+    matrix: &[u16],
+    random: &[u16],
+    holder: u16,
+    g: &mut [u16],
+    h: &mut [u16],
+) -> u16
+    ensures answer { λ r. ⌜ r ≡ dealZeroCall (setup p l e n (now (matrix .entry))) (now (random .entry)) holder (now (g .entry)) (now (h .entry)) .number ⌝ }
+    ensures row { λ r. ⌜ now (g .exit) ≡ dealZeroLeftG (setup p l e n (now (matrix .entry))) (now (random .entry)) holder (now (g .entry)) (now (h .entry)) ⌝ }
+    ensures column { λ r. ⌜ now (h .exit) ≡ dealZeroLeftH (setup p l e n (now (matrix .entry))) (now (random .entry)) holder (now (g .entry)) (now (h .entry)) ⌝ }
+{
+    let s = Params { p, l, e, n };
+    scheme::declined(zero_dealing::deal_zero(s, matrix, random, holder, g, h))
+}
+
+// Every holder's part of a zero dealing.
+#[no_mangle]
+pub extern "C" fn mavdrusek_deal_zero_all(
+    p: u16,
+    l: u16,
+    e: u16,
+    n: u16,
+    matrix: &[u16],
+    random: &[u16],
+    gs: &mut [u16],
+    hs: &mut [u16],
+) -> u16
+    ensures answer { λ r. ⌜ r ≡ dealZeroAllCall (setup p l e n (now (matrix .entry))) (now (random .entry)) (now (gs .entry)) (now (hs .entry)) .number ⌝ }
+    ensures rows { λ r. ⌜ now (gs .exit) ≡ dealZeroAllLeftG (setup p l e n (now (matrix .entry))) (now (random .entry)) (now (gs .entry)) (now (hs .entry)) ⌝ }
+    ensures columns { λ r. ⌜ now (hs .exit) ≡ dealZeroAllLeftH (setup p l e n (now (matrix .entry))) (now (random .entry)) (now (gs .entry)) (now (hs .entry)) ⌝ }
+{
+    let s = Params { p, l, e, n };
+    scheme::declined(zero_dealing::deal_zero_all(s, matrix, random, gs, hs))
+}
+
 // JUDGING
 // The pair value, for holder `to`, of the holder whose row part is g.
 #[no_mangle]
@@ -280,6 +325,27 @@ pub extern "C" fn mavdrusek_judge_mapped(
     judged(answer, verdict, named)
 }
 
+// A holder's judgement of a zero dealing: verdict 1 accepts; 0 rejects, and names the lowest holder whose value differs.
+#[no_mangle]
+pub extern "C" fn mavdrusek_judge_zero(
+    p: u16,
+    l: u16,
+    e: u16,
+    n: u16,
+    matrix: &[u16],
+    h: &[u16],
+    values: &[u16],
+    verdict: &mut u16,
+    named: &mut u16,
+) -> u16
+    ensures answer { λ r. ⌜ r ≡ judgeZeroCall (setup p l e n (now (matrix .entry))) (now (h .entry)) (now (values .entry)) .number ⌝ }
+    ensures verdict { λ r. ⌜ now (verdict .exit) ≡ place 0 (judgeZeroCall (setup p l e n (now (matrix .entry))) (now (h .entry)) (now (values .entry))) (now (verdict .entry)) ⌝ }
+    ensures named { λ r. ⌜ now (named .exit) ≡ place 1 (judgeZeroCall (setup p l e n (now (matrix .entry))) (now (h .entry)) (now (values .entry))) (now (named .entry)) ⌝ }
+{
+    let answer = zero_dealing::judge_zero(Params { p, l, e, n }, matrix, h, values);
+    judged(answer, verdict, named)
+}
+
 // The outcome: kept 1, with the shares written; 0 where it is aborted, and the lowest holder that said reject is named.
 #[no_mangle]
 pub extern "C" fn mavdrusek_outcome(
@@ -348,24 +414,57 @@ pub extern "C" fn mavdrusek_rehearse(
     }
 }
 
-// The sum of the products of constants and one holder's shares.
+// SHARES AND THEIR ROUNDS
+// A share's number, its value and its round.
+fn shared(answer: Share, value: &mut u16, round: &mut u16) -> u16
+    ensures { λ r. ⌜ r ≡ paperShare answer .number ⌝ }
+    ensures { λ _. ⌜ now (value .exit) ≡ place 0 (paperShare answer) (now (value .entry)) ⌝ }
+    ensures { λ _. ⌜ now (round .exit) ≡ place 1 (paperShare answer) (now (round .entry)) ⌝ }
+{
+    match answer {
+        Share::Is(x, t) => {
+            *value = x;
+            *round = t;
+            0
+        }
+        Share::Refused(k) => k,
+    }
+}
+
+// The sum of the products of constants and one holder's shares, and the shares' round.
 #[no_mangle]
 pub extern "C" fn mavdrusek_combine(
     p: u16,
     constants: &[u16],
     shares: &[u16],
+    rounds: &[u16],
     value: &mut u16,
+    round: &mut u16,
 ) -> u16
-    ensures answer { λ r. ⌜ r ≡ combineCall p (now (constants .entry)) (now (shares .entry)) .number ⌝ }
-    ensures value { λ r. ⌜ now (value .exit) ≡ place 0 (combineCall p (now (constants .entry)) (now (shares .entry))) (now (value .entry)) ⌝ }
+    ensures answer { λ r. ⌜ r ≡ combineCall p (now (constants .entry)) (now (shares .entry)) (now (rounds .entry)) .number ⌝ }
+    ensures value { λ r. ⌜ now (value .exit) ≡ place 0 (combineCall p (now (constants .entry)) (now (shares .entry)) (now (rounds .entry))) (now (value .entry)) ⌝ }
+    ensures round { λ r. ⌜ now (round .exit) ≡ place 1 (combineCall p (now (constants .entry)) (now (shares .entry)) (now (rounds .entry))) (now (round .entry)) ⌝ }
 {
-    match opening::combine(p, constants, shares) {
-        Value::Is(x) => {
-            *value = x;
-            0
-        }
-        Value::Refused(k) => k,
-    }
+    let answer = opening::combine(p, constants, shares, rounds);
+    shared(answer, value, round)
+}
+
+// A share and a zero share of its column, added, and the next round.
+#[no_mangle]
+pub extern "C" fn mavdrusek_refresh(
+    p: u16,
+    share: u16,
+    round: u16,
+    zero: u16,
+    value: &mut u16,
+    next: &mut u16,
+) -> u16
+    ensures answer { λ r. ⌜ r ≡ refreshCall p share round zero .number ⌝ }
+    ensures value { λ r. ⌜ now (value .exit) ≡ place 0 (refreshCall p share round zero) (now (value .entry)) ⌝ }
+    ensures next { λ r. ⌜ now (next .exit) ≡ place 1 (refreshCall p share round zero) (now (next .entry)) ⌝ }
+{
+    let answer = opening::refresh(p, share, round, zero);
+    shared(answer, value, next)
 }
 
 // SETS AND OPENINGS
@@ -478,7 +577,7 @@ fn opened(answer: Opened, position: &mut u16) -> u16
     }
 }
 
-// Opens the shares of a set, by rising holder; refusal 6 gives the lowest position with no row.
+// Opens the shares of a set, by rising holder, which come with their rounds; refusal 6 gives the lowest position with no row.
 #[no_mangle]
 pub extern "C" fn mavdrusek_open(
     p: u16,
@@ -488,14 +587,15 @@ pub extern "C" fn mavdrusek_open(
     matrix: &[u16],
     set: u32,
     shares: &[u16],
+    rounds: &[u16],
     secrets: &mut [u16],
     position: &mut u16,
 ) -> u16
-    ensures answer { λ r. ⌜ r ≡ openCall (setup p l e n (now (matrix .entry))) set (now (shares .entry)) (now (secrets .entry)) .number ⌝ }
-    ensures position { λ r. ⌜ now (position .exit) ≡ place 0 (openCall (setup p l e n (now (matrix .entry))) set (now (shares .entry)) (now (secrets .entry))) (now (position .entry)) ⌝ }
-    ensures left { λ r. ⌜ now (secrets .exit) ≡ openLeft (setup p l e n (now (matrix .entry))) set (now (shares .entry)) (now (secrets .entry)) ⌝ }
+    ensures answer { λ r. ⌜ r ≡ openCall (setup p l e n (now (matrix .entry))) set (now (shares .entry)) (now (rounds .entry)) (now (secrets .entry)) .number ⌝ }
+    ensures position { λ r. ⌜ now (position .exit) ≡ place 0 (openCall (setup p l e n (now (matrix .entry))) set (now (shares .entry)) (now (rounds .entry)) (now (secrets .entry))) (now (position .entry)) ⌝ }
+    ensures left { λ r. ⌜ now (secrets .exit) ≡ openLeft (setup p l e n (now (matrix .entry))) set (now (shares .entry)) (now (rounds .entry)) (now (secrets .entry)) ⌝ }
 {
-    let answer = opening::open(Params { p, l, e, n }, matrix, set, shares, secrets);
+    let answer = opening::open(Params { p, l, e, n }, matrix, set, shares, rounds, secrets);
     opened(answer, position)
 }
 
@@ -515,19 +615,21 @@ pub extern "C" fn mavdrusek_deal_key(
     scheme::declined(board_keys::deal_key(key, random, gs, hs))
 }
 
-// Opens the shares of a set, by column and then by rising holder, into the sixteen bytes of a key; refusal 6 gives the lowest position with no row.
+// Opens the shares of a set, by column and then by rising holder, which come with their rounds, into the sixteen bytes of a key; refusal 6 gives the lowest
+// position with no row.
 #[no_mangle]
 pub extern "C" fn mavdrusek_open_key(
     set: u32,
     shares: &[u16],
+    rounds: &[u16],
     key: &mut [u8],
     position: &mut u16,
 ) -> u16
-    ensures answer { λ r. ⌜ r ≡ openKeyCall set (now (shares .entry)) (now (key .entry)) .number ⌝ }
-    ensures position { λ r. ⌜ now (position .exit) ≡ place 0 (openKeyCall set (now (shares .entry)) (now (key .entry))) (now (position .entry)) ⌝ }
-    ensures left { λ r. ⌜ now (key .exit) ≡ openKeyLeft set (now (shares .entry)) (now (key .entry)) ⌝ }
+    ensures answer { λ r. ⌜ r ≡ openKeyCall set (now (shares .entry)) (now (rounds .entry)) (now (key .entry)) .number ⌝ }
+    ensures position { λ r. ⌜ now (position .exit) ≡ place 0 (openKeyCall set (now (shares .entry)) (now (rounds .entry)) (now (key .entry))) (now (position .entry)) ⌝ }
+    ensures left { λ r. ⌜ now (key .exit) ≡ openKeyLeft set (now (shares .entry)) (now (rounds .entry)) (now (key .entry)) ⌝ }
 {
-    let answer = board_keys::open_key(set, shares, key);
+    let answer = board_keys::open_key(set, shares, rounds, key);
     opened(answer, position)
 }
 
@@ -627,16 +729,18 @@ pub extern "C" fn mavdrusek_write_share(
     holder: u16,
     column: u16,
     value: u16,
+    round: u16,
     out: &mut [u8],
 ) -> u16
-    ensures answer { λ r. ⌜ r ≡ writeShareCall (setup p l e n []) (record { dealing = dealing; holder = holder; column = column; value = value }) (now (out .entry)) .number ⌝ }
-    ensures buffer { λ r. ⌜ now (out .exit) ≡ writeShareLeft (setup p l e n []) (record { dealing = dealing; holder = holder; column = column; value = value }) (now (out .entry)) ⌝ }
+    ensures answer { λ r. ⌜ r ≡ writeShareCall (setup p l e n []) (record { dealing = dealing; holder = holder; column = column; value = value; round = round }) (now (out .entry)) .number ⌝ }
+    ensures buffer { λ r. ⌜ now (out .exit) ≡ writeShareLeft (setup p l e n []) (record { dealing = dealing; holder = holder; column = column; value = value; round = round }) (now (out .entry)) ⌝ }
 {
     let x = ShareRecord {
         dealing,
         holder,
         column,
         value,
+        round,
     };
     scheme::declined(record_writing::write_share(Params { p, l, e, n }, x, out))
 }
@@ -692,6 +796,32 @@ pub extern "C" fn mavdrusek_write_mapped_pair_value(
         value,
     };
     scheme::declined(record_writing::write_mapped_pair_value(Params { p, l, e, n }, x, out))
+}
+
+// Writes a DZ.
+#[no_mangle]
+pub extern "C" fn mavdrusek_write_zero_dealing(
+    p: u16,
+    l: u16,
+    e: u16,
+    n: u16,
+    dealing: u16,
+    holder: u16,
+    g: &[u16],
+    h: &[u16],
+    out: &mut [u8],
+) -> u16
+    ensures answer { λ r. ⌜ r ≡ writeZeroCall (setup p l e n []) (record { dealing = dealing; holder = holder }) (now (g .entry)) (now (h .entry)) (now (out .entry)) .number ⌝ }
+    ensures buffer { λ r. ⌜ now (out .exit) ≡ writeZeroLeft (setup p l e n []) (record { dealing = dealing; holder = holder }) (now (g .entry)) (now (h .entry)) (now (out .entry)) ⌝ }
+{
+    let s = Params { p, l, e, n };
+    scheme::declined(record_writing::write_zero_dealing(
+        s,
+        DealingRecord { dealing, holder },
+        g,
+        h,
+        out,
+    ))
 }
 
 // READING RECORDS
@@ -831,12 +961,14 @@ pub extern "C" fn mavdrusek_read_share(
     holder: &mut u16,
     column: &mut u16,
     value: &mut u16,
+    round: &mut u16,
 ) -> u16
     ensures answer { λ r. ⌜ r ≡ readShareCall (setup p l e n []) (now (part .entry)) .number ⌝ }
     ensures dealing { λ r. ⌜ now (dealing .exit) ≡ place 0 (readShareCall (setup p l e n []) (now (part .entry))) (now (dealing .entry)) ⌝ }
     ensures holder { λ r. ⌜ now (holder .exit) ≡ place 1 (readShareCall (setup p l e n []) (now (part .entry))) (now (holder .entry)) ⌝ }
     ensures column { λ r. ⌜ now (column .exit) ≡ place 2 (readShareCall (setup p l e n []) (now (part .entry))) (now (column .entry)) ⌝ }
     ensures value { λ r. ⌜ now (value .exit) ≡ place 3 (readShareCall (setup p l e n []) (now (part .entry))) (now (value .entry)) ⌝ }
+    ensures round { λ r. ⌜ now (round .exit) ≡ place 4 (readShareCall (setup p l e n []) (now (part .entry))) (now (round .entry)) ⌝ }
 {
     match record_reading::read_share(Params { p, l, e, n }, part) {
         ShareRead::Is(x) => {
@@ -844,6 +976,7 @@ pub extern "C" fn mavdrusek_read_share(
             *holder = x.holder;
             *column = x.column;
             *value = x.value;
+            *round = x.round;
             0
         }
         ShareRead::Refused(k) => k,
@@ -909,6 +1042,35 @@ pub extern "C" fn mavdrusek_read_mapped_pair_value(
             0
         }
         PairRead::Refused(k) => k,
+    }
+}
+
+// Reads a DZ.
+#[no_mangle]
+pub extern "C" fn mavdrusek_read_zero_dealing(
+    p: u16,
+    l: u16,
+    e: u16,
+    n: u16,
+    part: &[u8],
+    g: &mut [u16],
+    h: &mut [u16],
+    dealing: &mut u16,
+    holder: &mut u16,
+) -> u16
+    ensures answer { λ r. ⌜ r ≡ readZeroCall (setup p l e n []) (now (part .entry)) (now (g .entry)) (now (h .entry)) .number ⌝ }
+    ensures dealing { λ r. ⌜ now (dealing .exit) ≡ place 0 (readZeroCall (setup p l e n []) (now (part .entry)) (now (g .entry)) (now (h .entry))) (now (dealing .entry)) ⌝ }
+    ensures holder { λ r. ⌜ now (holder .exit) ≡ place 1 (readZeroCall (setup p l e n []) (now (part .entry)) (now (g .entry)) (now (h .entry))) (now (holder .entry)) ⌝ }
+    ensures row { λ r. ⌜ now (g .exit) ≡ readZeroLeftG (setup p l e n []) (now (part .entry)) (now (g .entry)) (now (h .entry)) ⌝ }
+    ensures column { λ r. ⌜ now (h .exit) ≡ readZeroLeftH (setup p l e n []) (now (part .entry)) (now (g .entry)) (now (h .entry)) ⌝ }
+{
+    match record_reading::read_zero_dealing(Params { p, l, e, n }, part, g, h) {
+        DealingRead::Is(x) => {
+            *dealing = x.dealing;
+            *holder = x.holder;
+            0
+        }
+        DealingRead::Refused(k) => k,
     }
 }
 

@@ -1,5 +1,5 @@
 // Stored cases from standard input, each a call with all that it is lent, and for each what it gave, then a line feed: the number returned, the values given, and every lent buffer
-// as it is left. A case is a head of 19 words (the call, eight numbers, the lengths of nine slices of words and of one of bytes), then the slices. A place
+// as it is left. A case is a head of 20 words (the call, nine numbers, the lengths of nine slices of words and of one of bytes), then the slices. A place
 // for a value holds 7777 before the call.
 ghost use mathlib.Core.Path.{_≡_};
 ghost use Prim.Native.Nat.{_≤_};
@@ -51,6 +51,11 @@ fn three(number: u16, x: u16, y: u16, z: u16) {
 fn four(number: u16, x: u16, y: u16, z: u16, w: u16) {
     three(number, x, y, z);
     print(w);
+}
+
+fn five(number: u16, x: u16, y: u16, z: u16, w: u16, v: u16) {
+    four(number, x, y, z, w);
+    print(v);
 }
 
 // DEALING AND JUDGING
@@ -121,10 +126,11 @@ fn rehearse(p: u16, l: u16, e: u16, n: u16, matrix: &[u16], gs: &[u16], hs: &[u1
     three(number, x, y, z);
 }
 
-fn combine(p: u16, constants: &[u16], shares: &[u16]) {
+fn combine(p: u16, constants: &[u16], shares: &[u16], rounds: &[u16]) {
     let mut x: u16 = 7777;
-    let number = c_api::mavdrusek_combine(p, constants, shares, &mut x);
-    one(number, x);
+    let mut y: u16 = 7777;
+    let number = c_api::mavdrusek_combine(p, constants, shares, rounds, &mut x, &mut y);
+    two(number, x, y);
 }
 
 fn dealing_call(
@@ -148,7 +154,7 @@ fn dealing_call(
         4 => judge(p, l, e, n, a, b, c),
         5 => outcome(p, l, e, n, a, b, c),
         6 => rehearse(p, l, e, n, a, b, c),
-        _ => combine(p, a, b),
+        _ => combine(p, a, b, c),
     }
 }
 
@@ -282,6 +288,74 @@ fn mapped_call(
     }
 }
 
+// A ZERO DEALING
+fn deal_zero(
+    p: u16,
+    l: u16,
+    e: u16,
+    n: u16,
+    holder: u16,
+    matrix: &[u16],
+    random: &[u16],
+    g: &mut [u16],
+    h: &mut [u16],
+) {
+    print(c_api::mavdrusek_deal_zero(p, l, e, n, matrix, random, holder, g, h));
+    print_words(g);
+    print_words(h);
+}
+
+fn deal_zero_all(
+    p: u16,
+    l: u16,
+    e: u16,
+    n: u16,
+    matrix: &[u16],
+    random: &[u16],
+    gs: &mut [u16],
+    hs: &mut [u16],
+) {
+    print(c_api::mavdrusek_deal_zero_all(p, l, e, n, matrix, random, gs, hs));
+    print_words(gs);
+    print_words(hs);
+}
+
+fn judge_zero(p: u16, l: u16, e: u16, n: u16, matrix: &[u16], h: &[u16], values: &[u16]) {
+    let mut x: u16 = 7777;
+    let mut y: u16 = 7777;
+    let number = c_api::mavdrusek_judge_zero(p, l, e, n, matrix, h, values, &mut x, &mut y);
+    two(number, x, y);
+}
+
+fn refresh(p: u16, share: u16, round: u16, zero: u16) {
+    let mut x: u16 = 7777;
+    let mut y: u16 = 7777;
+    let number = c_api::mavdrusek_refresh(p, share, round, zero, &mut x, &mut y);
+    two(number, x, y);
+}
+
+fn zero_call(
+    call: u16,
+    p: u16,
+    l: u16,
+    e: u16,
+    n: u16,
+    x: u16,
+    y: u16,
+    z: u16,
+    a: &mut [u16],
+    b: &mut [u16],
+    c: &mut [u16],
+    d: &mut [u16],
+) {
+    match call {
+        35 => deal_zero(p, l, e, n, x, a, b, c, d),
+        36 => deal_zero_all(p, l, e, n, a, b, c, d),
+        37 => judge_zero(p, l, e, n, a, b, c),
+        _ => refresh(p, x, y, z),
+    }
+}
+
 // SETS AND OPENINGS
 fn half(x: u16) -> u32
     ensures { λ r. ⌜ r ≤ 65535 ⌝ }
@@ -330,10 +404,11 @@ fn open(
     set: u32,
     matrix: &[u16],
     shares: &[u16],
+    rounds: &[u16],
     secrets: &mut [u16],
 ) {
     let mut x: u16 = 7777;
-    let number = c_api::mavdrusek_open(p, l, e, n, matrix, set, shares, secrets, &mut x);
+    let number = c_api::mavdrusek_open(p, l, e, n, matrix, set, shares, rounds, secrets, &mut x);
     one(number, x);
     print_words(secrets);
 }
@@ -349,12 +424,13 @@ fn opening_call(
     a: &mut [u16],
     b: &mut [u16],
     c: &mut [u16],
+    d: &mut [u16],
 ) {
     match call {
         8 => judge_set(p, l, e, n, set, position, a, b),
         9 => determines(p, l, e, n, set, a),
         10 => private(p, l, e, n, set, a),
-        11 => open(p, l, e, n, set, a, b, c),
+        11 => open(p, l, e, n, set, a, b, c, d),
         _ => print(c_api::mavdrusek_field(p)),
     }
 }
@@ -366,9 +442,9 @@ fn deal_key(key: &[u8], random: &[u16], gs: &mut [u16], hs: &mut [u16]) {
     print_words(hs);
 }
 
-fn open_key(set: u32, shares: &[u16], key: &mut [u8]) {
+fn open_key(set: u32, shares: &[u16], rounds: &[u16], key: &mut [u8]) {
     let mut x: u16 = 7777;
-    let number = c_api::mavdrusek_open_key(set, shares, key, &mut x);
+    let number = c_api::mavdrusek_open_key(set, shares, rounds, key, &mut x);
     one(number, x);
     print_bytes(key);
 }
@@ -442,10 +518,11 @@ fn write_share(
     holder: u16,
     column: u16,
     value: u16,
+    round: u16,
     out: &mut [u8],
 ) {
     written(
-        c_api::mavdrusek_write_share(p, l, e, n, dealing, holder, column, value, out),
+        c_api::mavdrusek_write_share(p, l, e, n, dealing, holder, column, value, round, out),
         out,
     );
 }
@@ -485,6 +562,23 @@ fn write_mapped_pair_value(
     );
 }
 
+fn write_zero_dealing(
+    p: u16,
+    l: u16,
+    e: u16,
+    n: u16,
+    dealing: u16,
+    holder: u16,
+    g: &[u16],
+    h: &[u16],
+    out: &mut [u8],
+) {
+    written(
+        c_api::mavdrusek_write_zero_dealing(p, l, e, n, dealing, holder, g, h, out),
+        out,
+    );
+}
+
 fn writing_call(
     call: u16,
     p: u16,
@@ -495,6 +589,7 @@ fn writing_call(
     y: u16,
     z: u16,
     w: u16,
+    v: u16,
     a: &[u16],
     b: &[u16],
     c: &[u16],
@@ -507,7 +602,8 @@ fn writing_call(
         16 => write_verdict(p, l, e, n, x, y, z, out),
         31 => write_mapped_dealing(p, l, e, n, x, y, a, b, c, out),
         32 => write_mapped_pair_value(p, l, e, n, x, y, z, w, out),
-        _ => write_share(p, l, e, n, x, y, z, w, out),
+        39 => write_zero_dealing(p, l, e, n, x, y, a, b, out),
+        _ => write_share(p, l, e, n, x, y, z, w, v, out),
     }
 }
 
@@ -556,8 +652,20 @@ fn read_share(p: u16, l: u16, e: u16, n: u16, part: &[u8]) {
     let mut y: u16 = 7777;
     let mut z: u16 = 7777;
     let mut w: u16 = 7777;
-    let number = c_api::mavdrusek_read_share(p, l, e, n, part, &mut x, &mut y, &mut z, &mut w);
-    four(number, x, y, z, w);
+    let mut v: u16 = 7777;
+    let number = c_api::mavdrusek_read_share(
+        p,
+        l,
+        e,
+        n,
+        part,
+        &mut x,
+        &mut y,
+        &mut z,
+        &mut w,
+        &mut v,
+    );
+    five(number, x, y, z, w, v);
 }
 
 fn read_mapped_dealing(
@@ -598,6 +706,15 @@ fn read_mapped_pair_value(p: u16, l: u16, e: u16, n: u16, part: &[u8]) {
     four(number, x, y, z, w);
 }
 
+fn read_zero_dealing(p: u16, l: u16, e: u16, n: u16, part: &[u8], g: &mut [u16], h: &mut [u16]) {
+    let mut x: u16 = 7777;
+    let mut y: u16 = 7777;
+    let number = c_api::mavdrusek_read_zero_dealing(p, l, e, n, part, g, h, &mut x, &mut y);
+    two(number, x, y);
+    print_words(g);
+    print_words(h);
+}
+
 fn reading_call(
     call: u16,
     p: u16,
@@ -617,6 +734,7 @@ fn reading_call(
         22 => read_verdict(p, l, e, n, part),
         33 => read_mapped_dealing(p, l, e, n, part, a, b, c),
         34 => read_mapped_pair_value(p, l, e, n, part),
+        40 => read_zero_dealing(p, l, e, n, part, a, b),
         _ => read_share(p, l, e, n, part),
     }
 }
@@ -654,7 +772,7 @@ fn read_file(file: &[u8], contents: &mut [u16]) {
 
 // CASES
 fn call(
-    k: &[u16; 19],
+    k: &[u16; 20],
     a: &mut [u16],
     b: &mut [u16],
     c: &mut [u16],
@@ -678,11 +796,14 @@ fn call(
         12 => holder_file(bytes),
         24 => read_file(bytes, a),
         26 => deal_key(bytes, a, b, c),
-        27 => open_key(set(x, y), a, bytes),
+        27 => open_key(set(x, y), a, b, bytes),
         28..=30 => mapped_call(k[0], p, l, e, n, x, a, b, c, d, f, g, h, i, j),
-        13..=17 | 31..=32 => writing_call(k[0], p, l, e, n, x, y, z, k[8], a, b, c, bytes),
-        18..=23 | 33..=34 => reading_call(k[0], p, l, e, n, bytes, a, b, c),
-        _ => opening_call(k[0], p, l, e, n, set(x, y), z, a, b, c),
+        35..=38 => zero_call(k[0], p, l, e, n, x, y, z, a, b, c, d),
+        13..=17 | 31..=32 | 39 => {
+            writing_call(k[0], p, l, e, n, x, y, z, k[8], k[9], a, b, c, bytes)
+        }
+        18..=23 | 33..=34 | 40 => reading_call(k[0], p, l, e, n, bytes, a, b, c),
+        _ => opening_call(k[0], p, l, e, n, set(x, y), z, a, b, c, d),
     }
 }
 
@@ -731,17 +852,17 @@ fn read_bytes(len: usize) -> [u8; 4096]
 }
 
 // The slices of a case, and its call.
-fn run(k: &[u16; 19]) {
-    let len_a = words_len(k[9]);
-    let len_b = words_len(k[10]);
-    let len_c = words_len(k[11]);
-    let len_d = words_len(k[12]);
-    let len_f = words_len(k[13]);
-    let len_g = words_len(k[14]);
-    let len_h = words_len(k[15]);
-    let len_i = words_len(k[16]);
-    let len_j = words_len(k[17]);
-    let len_bytes = bytes_len(k[18]);
+fn run(k: &[u16; 20]) {
+    let len_a = words_len(k[10]);
+    let len_b = words_len(k[11]);
+    let len_c = words_len(k[12]);
+    let len_d = words_len(k[13]);
+    let len_f = words_len(k[14]);
+    let len_g = words_len(k[15]);
+    let len_h = words_len(k[16]);
+    let len_i = words_len(k[17]);
+    let len_j = words_len(k[18]);
+    let len_bytes = bytes_len(k[19]);
     let mut a = read_words(len_a);
     let mut b = read_words(len_b);
     let mut c = read_words(len_c);
@@ -770,9 +891,9 @@ fn run(k: &[u16; 19]) {
 
 // The next case; false where there is none.
 fn next() -> bool {
-    let mut bytes = [0u8; 38];
-    let mut head = [0u16; 19];
-    if !read(&mut bytes, 38) {
+    let mut bytes = [0u8; 40];
+    let mut head = [0u16; 20];
+    if !read(&mut bytes, 40) {
         return false;
     }
     record_layouts::get_words(&bytes, 0, &mut head);

@@ -29,7 +29,7 @@ use Rattle.dealing.specs.Inner.{sized, DealtRoom, MappedRoom, HolderRoom
 
 -- ENTRIES
 -- an array that is filled up to row l, and then to its end from a lent list in order
-rest-laid : (l e : ℕ) (E : ℕ → ℕ → ℕ) (lent : List ℕ) (a : ℕ) → ((q r : ℕ) → along lent a 1 (q * (l + e) + r) ≡ E (l + q) r)
+pub rest-laid : (l e : ℕ) (E : ℕ → ℕ → ℕ) (lent : List ℕ) (a : ℕ) → ((q r : ℕ) → along lent a 1 (q * (l + e) + r) ≡ E (l + q) r)
     → (x f : List ℕ) → f ≡ filled (flat (l + e) E) (l * (l + e)) x
     → laid (along lent a 1) (l * (l + e)) (e * (l + e)) f ≡ filled (flat (l + e) E) ((l + e) * (l + e)) x
 rest-laid l e E lent a of x f s =
@@ -149,7 +149,7 @@ pub record Array (S : Setup) (F A : List ℕ) : Type 0 where
 pub few : (S : Setup) → IsSetup S → dim S ≤ 16
 few S ok = omega (arith, ok .limits .secret, ok .limits .random)
 
-filled-array : (S : Setup) (E : ℕ → ℕ → ℕ) (F : List ℕ) → IsSetup S → ((k b : ℕ) → E k b < S .p)
+pub filled-array : (S : Setup) (E : ℕ → ℕ → ℕ) (F : List ℕ) → IsSetup S → ((k b : ℕ) → E k b < S .p)
     → F ≡ filled (flat (dim S) E) (dim S * dim S) (replicate 256 0) → Array S F (tab (dim S * dim S) (flat (dim S) E))
 filled-array S E F ok below is =
     let pos = limits-pos S (ok .limits) in

@@ -138,7 +138,7 @@ fn deal_refusal(
 }
 
 // A holder's part: its h along the rows of F, then its g along the columns.
-fn write_part(s: Params, matrix: &[u16], f: &[u16], holder: u16, g: &mut [u16], h: &mut [u16])
+pub fn write_part(s: Params, matrix: &[u16], f: &[u16], holder: u16, g: &mut [u16], h: &mut [u16])
     requires { ⌜ HolderRoom (setupOf s (now matrix)) (now f) holder (now g) (now h) ⌝ }
     ensures { λ _. ⌜ now (g .exit) ≡ partG (setupOf s (now (matrix .entry))) (now (f .entry)) holder ⌝ }
     ensures { λ _. ⌜ now (h .exit) ≡ partH (setupOf s (now (matrix .entry))) (now (f .entry)) holder ⌝ }

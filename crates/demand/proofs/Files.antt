@@ -1,4 +1,4 @@
--- An honest run's values and verdicts are accepted by the calls, so what each holder has is in order, reads back and prints. With a map, the first dealing by itself is
+-- An honest run's values and verdicts are accepted by the calls, so what each holder has is in order, reads back and prints; so of a zero dealing. With a map, the first dealing by itself is
 -- an honest one, and so its part of the contents is in order; the second part is by the calls on the second dealing.
 -- honest-prints: contents in order, accepted and kept, read back and print
 use mathlib.Core.Path.{_≡_, refl, sym, ap, _∙_}
@@ -10,18 +10,19 @@ use Rattle.base.proofs.Rules.{not-refused}
 use Rattle.field.specs.Dot.{at}
 use Rattle.scheme.specs.declared.Judgement.the-variants.{Accept}
 use Rattle.scheme.specs.declared.Fate.the-variants.{Kept}
-use Rattle.scheme.specs.Dealing.{judge, isKept, fateOf, outcome, shares}
+use Rattle.scheme.specs.Dealing.{judge, judgeZero, isKept, fateOf, outcome, shares}
 use Rattle.scheme.specs.Answers.{paperJudgement}
-use Rattle.scheme.specs.Calls.{judgeRules, judgeMappedRules, outcomeRules}
-use Rattle.scheme.proofs.Calls.{deal-ok, judge-ok, judgeMapped-ok, outcome-ok}
+use Rattle.scheme.specs.Calls.{judgeRules, judgeMappedRules, judgeZeroRules, outcomeRules}
+use Rattle.scheme.proofs.Calls.{deal-ok, dealZero-ok, judge-ok, judgeMapped-ok, judgeZero-ok, outcome-ok}
 use Rattle.scheme.proofs.Verdicts.{accept-is, kept-means}
 use Rattle.file_reading.specs.Contents.{Contents, InOrder, sharesOf, judgement, fate, verdictOf}
 use Rattle.file_reading.proofs.Sound.{reads-back}
 use Rattle.holder_file.specs.Text.{textOf}
 use Rattle.holder_file.proofs.Examples.{prints}
 use Rattle.demand.specs.Maps.{firstDealing}
-use Rattle.demand.specs.Files.{contentsOfRun, contentsOfMappedRun, HonestFile, HonestFiles, HonestMappedFiles}
+use Rattle.demand.specs.Files.{contentsOfRun, contentsOfMappedRun, contentsOfZeroRun, HonestFile, HonestFiles, HonestMappedFiles, HonestZeroFiles}
 use Rattle.demand.proofs.Demand.{demand3}
+use Rattle.demand.proofs.HonestZeros.{zero-dealings}
 use Rattle.demand.proofs.HonestMaps.{demand3-with-maps}
 
 honest-prints : (C : Contents) (xs ys : List ℕ) → InOrder C → judgement C ≡ Accept → isKept (C .setup) (C .verdicts) ≡ true
@@ -88,3 +89,28 @@ honest-mapped-files S X T run i l number from to =
       own = P .in-order .own ∙ ap verdictOf (P .accepts ∙ sym accept);
     } in
     honest-prints C _ _ order accept k (rw k at (P .shares)) (rw (settled .0, k) at (K .share2))
+
+pub honest-zero-files : HonestZeroFiles
+honest-zero-files S random Z run i l number from to =
+    let found = zero-dealings .honest S random Z run in
+    let C = contentsOfZeroRun S Z number i in
+    let K = found .keep i l in
+    let dealt = dealZero-ok S random i (run .lentG) (run .lentH) (not-refused _ _ [] (run .dealing i l) .0) in
+    let judged = not-refused (refusal (judgeZeroRules S (Z .h i) (Z .values i))) (judgeZero S (Z .h i) (Z .values i)) (1 ∷ []) (found .accept i l) in
+    let settled = not-refused (refusal (outcomeRules S (Z .g i) (Z .verdicts i) (K .lent))) (outcome S (Z .verdicts i)) (1 ∷ []) (K .settled) in
+    let J = judgeZero-ok S (Z .h i) (Z .values i) (judged .0) in
+    let O = outcome-ok S (Z .g i) (Z .verdicts i) (K .lent) (settled .0) in
+    let k = kept-means S (Z .verdicts i) (settled .1) in
+    let accept : judgement C ≡ Accept = accept-is (judgement C) (judged .1) in
+    let order : InOrder C = record {
+      setup = dealt .0 .setup;
+      dealing = (from, to);
+      holder = l;
+      row = O .part;
+      column = J .part;
+      received = J .received;
+      heard = O .heard;
+      second = tt;
+      own = run .said i i l l ∙ ap (λ (a : Answer). at (a .values) 0) (found .accept i l) ∙ sym (ap verdictOf accept);
+    } in
+    honest-prints C _ _ order accept k (rw (settled .0, k) at (K .share)) refl

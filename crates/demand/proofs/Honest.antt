@@ -77,8 +77,8 @@ module _ (S : Setup) (secrets random : List ℕ) (ok : DealOk S secrets random) 
   pub run-done : (group : ℕ) → determinesCall S group ≡ yes → Done S group (λ (t : Unit {0}). run)
   run-done group e = demand3 .honest S secrets random run run-honest .done group e
 
--- any family of them
-pub runs-found : (S : Setup) {I : Type 0} (secrets random : I → List ℕ) (ok : (t : I) → DealOk S (secrets t) (random t))
-    → FamilyFound S secrets random (λ t. run S (secrets t) (random t) (ok t))
-runs-found S secrets random ok =
-    demand3 .families S secrets random (λ t. run S (secrets t) (random t) (ok t)) (λ t. run-honest S (secrets t) (random t) (ok t))
+-- any family of them, in every round
+pub runs-found : (S : Setup) {I J : Type 0} (secrets random : I → List ℕ) (ok : (t : I) → DealOk S (secrets t) (random t)) (Z : J → Dealing)
+    → FamilyFound S secrets random (λ t. run S (secrets t) (random t) (ok t)) Z
+runs-found S secrets random ok Z =
+    demand3 .families S secrets random (λ t. run S (secrets t) (random t) (ok t)) Z (λ t. run-honest S (secrets t) (random t) (ok t))

@@ -182,20 +182,22 @@ module _ (S : Setup) (X : MapInputs) (T : MappedDealing) (hon : HonestMapped S X
       }
 
 -- FAMILIES
-module _ (S : Setup) {I K : Type 0} (secrets random : I → List ℕ) (D : I → Dealing) (X : K → MapInputs) (T : K → MappedDealing)
+module _ (S : Setup) {I K J : Type 0} (secrets random : I → List ℕ) (D : I → Dealing) (X : K → MapInputs) (T : K → MappedDealing) (Z : J → Dealing)
     (hon : (t : I) → Honest S (secrets t) (random t) (D t)) (mapped : (t : K) → HonestMapped S (X t) (T t)) where
-  family-found : MapFamilyFound S secrets random D X T
+  family-found : MapFamilyFound S secrets random D X T Z
   family-found =
       record {
         done = all-done;
         arrays = same;
-        opens = λ group e. let F = demand3 .found S group (together D T) (joined group e) in opens-known S group (together D T) F (arraysDealt S secrets random X) (same group e F);
+        opens = λ group e doneZero.
+            let F = demand3 .found S group (together D T) Z (joined group e) doneZero in
+            opens-known S group (together D T) Z F (arraysDealt S secrets random X) (same group e F);
       }
     where
       all-done : (group : ℕ) → determinesCall S group ≡ yes → DoneWithMaps S group D (λ t. X t .phi) T
       all-done group e =
           record {
-            plainly = demand3 .families S secrets random D hon .done group e;
+            plainly = demand3 .families S secrets random D Z hon .done group e;
             one-map = λ t i m. mapped t .one-map i (m .0);
             keepers = λ t i m. keep-both S (X t) (T t) (mapped t) i (m .0);
             delivered = λ t i j mi mj. mapped t .arrived i j (mi .0) (mj .0);
@@ -205,16 +207,17 @@ module _ (S : Setup) {I K : Type 0} (secrets random : I → List ℕ) (D : I →
       joined : (group : ℕ) → determinesCall S group ≡ yes → Done S group (together D T)
       joined group e = both-done S group D (λ t. X t .phi) T (all-done group e)
 
-      same : (group : ℕ) → determinesCall S group ≡ yes → (F : Found S group (together D T)) (c : Which I K) → F .array c ≡ arraysDealt S secrets random X c
-      same group e F (plain t) = block-found S group (together D T) (joined group e) F (plain t) _ (group-from S (secrets t) (random t) (D t) (hon t) group e)
-      same group e F (first t) = block-found S group (together D T) (joined group e) F (first t) _ (group-first S (X t) (T t) (mapped t) group e)
-      same group e F (second t) = block-found S group (together D T) (joined group e) F (second t) _ (group-second S (X t) (T t) (mapped t) group e)
+      same : (group : ℕ) → determinesCall S group ≡ yes → (F : Found S group (together D T) Z) (c : Which I K) → F .array c ≡ arraysDealt S secrets random X c
+      same group e F (plain t) = block-found S group (together D T) Z (joined group e) F (plain t) _ (group-from S (secrets t) (random t) (D t) (hon t) group e)
+      same group e F (first t) = block-found S group (together D T) Z (joined group e) F (first t) _ (group-first S (X t) (T t) (mapped t) group e)
+      same group e F (second t) = block-found S group (together D T) Z (joined group e) F (second t) _ (group-second S (X t) (T t) (mapped t) group e)
 
 pub demand3-with-maps : Demand3WithMaps
 demand3-with-maps =
     record {
-      found = found-with-maps;
-      met = λ S group D phi T done. demand3 .met S group (together D T) (both-done S group D phi T done);
+      found = λ S group D phi T Z done doneZero. found-with-maps S group D phi T done Z doneZero;
+      joined = both-done;
+      met = λ S group D phi T Z done doneZero. demand3 .met S group (together D T) Z (both-done S group D phi T done) doneZero;
       without = without-maps;
       plain-ones = plain-found;
       honest = honest-mapped;
@@ -298,9 +301,9 @@ module _ (S : Setup) (X : MapInputs) (ok : DealMappedOk S (X .secrets) (X .rando
         share2 = λ i l. refl;
       }
 
--- any family of them, among plain ones
-pub mappedRuns-found : (S : Setup) {I K : Type 0} (secrets random : I → List ℕ) (ok : (t : I) → DealOk S (secrets t) (random t))
-    (X : K → MapInputs) (ok2 : (t : K) → DealMappedOk S (X t .secrets) (X t .random) (X t .phi) (X t .random2))
-    → MapFamilyFound S secrets random (λ t. run S (secrets t) (random t) (ok t)) X (λ t. mappedRun S (X t) (ok2 t))
-mappedRuns-found S secrets random ok X ok2 =
-    demand3-with-maps .families S secrets random _ X _ (λ t. run-honest S (secrets t) (random t) (ok t)) (λ t. mappedRun-honest S (X t) (ok2 t))
+-- any family of them, among plain ones, in every round
+pub mappedRuns-found : (S : Setup) {I K J : Type 0} (secrets random : I → List ℕ) (ok : (t : I) → DealOk S (secrets t) (random t))
+    (X : K → MapInputs) (ok2 : (t : K) → DealMappedOk S (X t .secrets) (X t .random) (X t .phi) (X t .random2)) (Z : J → Dealing)
+    → MapFamilyFound S secrets random (λ t. run S (secrets t) (random t) (ok t)) X (λ t. mappedRun S (X t) (ok2 t)) Z
+mappedRuns-found S secrets random ok X ok2 Z =
+    demand3-with-maps .families S secrets random _ X _ Z (λ t. run-honest S (secrets t) (random t) (ok t)) (λ t. mappedRun-honest S (X t) (ok2 t))

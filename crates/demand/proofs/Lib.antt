@@ -1,4 +1,9 @@
+pub mod Given
+pub mod Arrays
+pub mod Zeros
+pub mod Rounds
 pub mod Demand
+pub mod HonestZeros
 pub mod Honest
 pub mod NoColumns
 pub mod Present
@@ -7,5 +12,6 @@ pub mod Back
 pub mod Maps
 pub mod HonestMaps
 pub mod MapLists
+pub mod RoundLists
 pub mod Files
 pub mod Retired

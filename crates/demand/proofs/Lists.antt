@@ -1,5 +1,5 @@
--- Demand 3 on numbers, for a list of three terms: two dealings on one setup with two columns, a group of three holders, and one outsider among the
--- openers. What demand 3 asks is met, by computation. The opening gives the combination of the secrets where the outsider hands in what fits, and is
+-- Demand 3 on numbers, for a list of three terms: two dealings on one setup with two columns, both at round 3 and not refreshed, a group of three holders, and
+-- one outsider among the openers. What demand 3 asks is met, by computation. The opening gives the combination of the secrets where the outsider hands in what fits, and is
 -- refused by 7 where it does not.
 use mathlib.Core.Path.{_≡_, refl, sym, ap, _∙_}
 use mathlib.Core.Bool.{Bool, true, false, false≢true}
@@ -13,7 +13,7 @@ use Rattle.base.specs.Rules.{Answer, given}
 use Rattle.base.specs.Sum.{sum, bit, unit}
 use Rattle.base.specs.Search.{every, first, firstFrom, firstOf, firstVec, Vec}
 use Rattle.base.specs.Fill.{tab, tabFrom}
-use Rattle.base.specs.Matrix.{allBelow}
+use Rattle.base.specs.Matrix.{allBelow, allAre}
 use Rattle.field.specs.Fields.{isField}
 use Rattle.field.specs.Dot.{at, dot}
 use Rattle.scheme.specs.Setup.{Setup, Limits}
@@ -22,7 +22,7 @@ use Rattle.scheme.specs.Dealing.{place, dealtEntry, dealt, pairValue, expected,
 use Rattle.scheme.specs.Sets.{members, membersFrom, isRow, findRow, hasRow, determines}
 use Rattle.scheme.specs.Opening.{gives, opening, combine}
 use Rattle.scheme.specs.Calls.{pairValueCall, openCall, openLeft}
-use Rattle.demand.specs.Demand.{Dealing, Member, Keeps, Done, Terms, InLimits, Handed, handedIn, Array, secretsOver, Opens, Refused, by-four, by-seven, FamilyFound}
+use Rattle.demand.specs.Demand.{Dealing, Member, Keeps, Done, DoneZero, Applied, unrefreshed, Terms, InLimits, Handed, handsIn, valuesBy, roundsBy, Array, secretsOver, Opens, Refused, by-four, by-nineteen, by-seven, Found, FamilyFound}
 use Rattle.scheme.proofs.Calls.{vec-of, DealOk}
 use Rattle.demand.proofs.Demand.{demand3}
 use Rattle.demand.proofs.Honest.{run, runs-found}
@@ -91,7 +91,7 @@ Sent : Bool → ℕ → ℕ → Type 0
 Sent t i j = pairValueCall four (dealings t .g j) i ≡ given (at (dealings t .values i) j ∷ [])
 
 pub done : Done four 7 dealings
-unfolding sum bit unit every first firstFrom firstOf firstVec tab tabFrom allBelow isField dot pairValue expected differs judgementOf saidReject isKept fateOf members membersFrom isRow findRow hasRow determines Sent
+unfolding sum bit unit every first firstFrom firstOf firstVec tab tabFrom allBelow allAre isField dot pairValue expected differs judgementOf saidReject isKept fateOf members membersFrom isRow findRow hasRow determines Sent
 done = record { determined = refl; keepers = keep; delivered = λ t i j mi mj. sent t i mi j mj }
   where
     keep : (t : Bool) (i : ℕ) → Member four 7 i → Keeps four (dealings t) i
@@ -122,15 +122,27 @@ limits =
       constants = of-terms (λ t. terms .constant t < 7) (omega arith) (omega arith) (omega arith);
     }
 
--- holders 0, 1 and 2 hand in 4, 2 and 5, and holder 3 any number x
-pub handed : (x : ℕ) → Handed four 7 dealings terms 15 (4 ∷ 2 ∷ 5 ∷ x ∷ [])
+-- NOTHING IS REFRESHED: there is no zero dealing, and every share stands at round 3
+abbrev pub nothing : ⊥ → Dealing
+nothing j = absurd j
+
+pub none-done : DoneZero four 7 nothing
+none-done = demand3 .none-yet four 7 (done .determined)
+
+abbrev pub kept-at-three : Applied four 7 dealings nothing
+kept-at-three = unrefreshed four 7 dealings nothing (λ t. 3)
+
+-- holders 0, 1 and 2 hand in 4, 2 and 5 at that round, and holder 3 any number x at any round r
+pub handed : (x r : ℕ) → Handed four 7 (kept-at-three .slip) terms 15 (4 ∷ 2 ∷ 5 ∷ x ∷ []) (3 ∷ 3 ∷ 3 ∷ r ∷ [])
 unfolding sum bit unit every firstOf firstVec tab tabFrom dot members membersFrom isRow findRow hasRow determines combine
-handed x = demand3 .met four 7 dealings done terms limits 15 (omega arith) refl (λ i. x)
+handed x r =
+    demand3 .met four 7 dealings nothing done none-done kept-at-three terms limits 15 (omega arith) refl (λ i m n t u l o. refl)
+    (λ i. record { value = x; round = r })
 
 -- WHAT IS FOUND
--- with 6, which fits, the combination of the secrets dealt: 5 and 2
-pub opened : Opens four 15 (4 ∷ 2 ∷ 5 ∷ 6 ∷ []) (0 ∷ 0 ∷ []) (5 ∷ 2 ∷ [])
-unfolding sum bit unit every first firstFrom firstOf firstVec tab tabFrom allBelow isField dot members membersFrom isRow findRow hasRow gives opening
+-- with 6 at round 3, which fits, the combination of the secrets dealt: 5 and 2
+pub opened : Opens four 15 (4 ∷ 2 ∷ 5 ∷ 6 ∷ []) (3 ∷ 3 ∷ 3 ∷ 3 ∷ []) (0 ∷ 0 ∷ []) (5 ∷ 2 ∷ [])
+unfolding sum bit unit every first firstFrom firstOf firstVec tab tabFrom allBelow allAre isField dot members membersFrom isRow findRow hasRow gives opening
 opened = record { answer = refl; buffer = refl }
 
 pub combination : secretsOver four arrays terms ≡ 5 ∷ 2 ∷ []
@@ -138,21 +150,27 @@ unfolding sum tab tabFrom dot combine
 combination = refl
 
 -- with 3 a refusal by 7, and the buffer stays
-pub refused-by-seven : (openCall four 15 (4 ∷ 2 ∷ 5 ∷ 3 ∷ []) (0 ∷ 0 ∷ []) ≡ inconsistent) × (openLeft four 15 (4 ∷ 2 ∷ 5 ∷ 3 ∷ []) (0 ∷ 0 ∷ []) ≡ 0 ∷ 0 ∷ [])
-unfolding sum bit unit every first firstFrom firstOf firstVec tab tabFrom allBelow isField dot members membersFrom isRow findRow hasRow gives opening
+pub refused-by-seven : (openCall four 15 (4 ∷ 2 ∷ 5 ∷ 3 ∷ []) (3 ∷ 3 ∷ 3 ∷ 3 ∷ []) (0 ∷ 0 ∷ []) ≡ inconsistent)
+    × (openLeft four 15 (4 ∷ 2 ∷ 5 ∷ 3 ∷ []) (3 ∷ 3 ∷ 3 ∷ 3 ∷ []) (0 ∷ 0 ∷ []) ≡ 0 ∷ 0 ∷ [])
+unfolding sum bit unit every first firstFrom firstOf firstVec tab tabFrom allBelow allAre isField dot members membersFrom isRow findRow hasRow gives opening
 refused-by-seven = (refl, refl)
 
 -- so the arrays that demand 3 finds have this combination
-pub found-combination : secretsOver four (demand3 .found four 7 dealings done .array) terms ≡ 5 ∷ 2 ∷ []
-found-combination = go (demand3 .found four 7 dealings done .opens terms 15 (4 ∷ 2 ∷ 5 ∷ 6 ∷ []) (0 ∷ 0 ∷ []) (handed 6) refl)
+pub found : Found four 7 dealings nothing
+found = demand3 .found four 7 dealings nothing done none-done
+
+pub found-combination : secretsOver four (found .array) terms ≡ 5 ∷ 2 ∷ []
+found-combination = go (found .now kept-at-three .opens terms 15 (4 ∷ 2 ∷ 5 ∷ 6 ∷ []) (3 ∷ 3 ∷ 3 ∷ 3 ∷ []) (0 ∷ 0 ∷ []) (handed 6 3) refl)
   where
-    answered : (a : Answer) → openCall four 15 (4 ∷ 2 ∷ 5 ∷ 6 ∷ []) (0 ∷ 0 ∷ []) ≡ a → a .number ≡ 0
+    answered : (a : Answer) → openCall four 15 (4 ∷ 2 ∷ 5 ∷ 6 ∷ []) (3 ∷ 3 ∷ 3 ∷ 3 ∷ []) (0 ∷ 0 ∷ []) ≡ a → a .number ≡ 0
     answered a e = ap (λ (x : Answer). x .number) (sym e ∙ opened .answer)
 
-    go : (Opens four 15 (4 ∷ 2 ∷ 5 ∷ 6 ∷ []) (0 ∷ 0 ∷ []) (secretsOver four (demand3 .found four 7 dealings done .array) terms) ⊎ Refused four 15 (4 ∷ 2 ∷ 5 ∷ 6 ∷ []) (0 ∷ 0 ∷ []))
-        → secretsOver four (demand3 .found four 7 dealings done .array) terms ≡ 5 ∷ 2 ∷ []
+    go : (Opens four 15 (4 ∷ 2 ∷ 5 ∷ 6 ∷ []) (3 ∷ 3 ∷ 3 ∷ 3 ∷ []) (0 ∷ 0 ∷ []) (secretsOver four (found .array) terms)
+        ⊎ Refused four 15 (4 ∷ 2 ∷ 5 ∷ 6 ∷ []) (3 ∷ 3 ∷ 3 ∷ 3 ∷ []) (0 ∷ 0 ∷ []))
+        → secretsOver four (found .array) terms ≡ 5 ∷ 2 ∷ []
     go (inl r) = sym (r .buffer) ∙ opened .buffer
     go (inr (by-four e k)) = absurd (eqb-false 4 0 refl (answered _ e))
+    go (inr (by-nineteen d e k)) = absurd (eqb-false 19 0 refl (answered _ e))
     go (inr (by-seven e k)) = absurd (eqb-false 7 0 refl (answered _ e))
 
 -- WHERE ALL FOLLOW THE RULES: two dealings from the same secrets and random entries, and the same list, opened by the group
@@ -182,13 +200,19 @@ inputs t = record { setup = record { limits = within; matrix = vec-of 7 12 (four
 abbrev pub runs : Bool → Dealing
 runs t = run four (secrets t) (random t) (inputs t)
 
-pub family : FamilyFound four secrets random runs
-family = runs-found four secrets random inputs
+pub family : FamilyFound four secrets random runs nothing
+family = runs-found four secrets random inputs nothing
 
-pub honest-opened : Opens four 7 (handedIn four 7 runs terms 7 (λ i. 0)) (0 ∷ 0 ∷ []) (5 ∷ 2 ∷ [])
+abbrev runs-at-three : Applied four 7 runs nothing
+runs-at-three = unrefreshed four 7 runs nothing (λ t. 3)
+
+pub honest-opened : Opens four 7 (valuesBy four 7 (handsIn four 7 (runs-at-three .slip) terms (λ i. record { value = 0; round = 0 })))
+    (roundsBy four 7 (handsIn four 7 (runs-at-three .slip) terms (λ i. record { value = 0; round = 0 }))) (0 ∷ 0 ∷ []) (5 ∷ 2 ∷ [])
 unfolding sum bit unit every firstOf firstVec tab tabFrom allBelow isField dot place dealtEntry dealt members membersFrom isRow findRow hasRow determines combine
 honest-opened =
-    family .opens 7 refl terms 7 _ (0 ∷ 0 ∷ []) (demand3 .met four 7 runs (family .done 7 refl) terms limits 7 (omega arith) refl (λ i. 0)) refl (λ i m. m)
+    family .opens 7 refl none-done runs-at-three terms 7 _ _ (0 ∷ 0 ∷ [])
+    (demand3 .met four 7 runs nothing (family .done 7 refl) none-done runs-at-three terms limits 7 (omega arith) refl (λ i m n t u l o. refl)
+    (λ i. record { value = 0; round = 0 })) refl (λ i m. m) (λ t i k l m n. refl)
 
 -- THE LIMITS OF A LIST: 64 terms and none are within them, 65 are not
 abbrev pub many : ℕ → Terms Bool
@@ -203,13 +227,14 @@ sixty-five k = omega (arith, k .few)
 pub no-terms : InLimits four (many 0)
 no-terms = record { few = omega arith; columns = λ t l. omega arith; constants = λ t l. omega arith }
 
--- THE SUM OF NO COLUMNS: holders 0, 1 and 2 hand in 0, and holder 3 any number x. It opens to zeros, or is refused.
-pub handed-none : (x : ℕ) → Handed four 7 dealings (many 0) 15 (0 ∷ 0 ∷ 0 ∷ x ∷ [])
+-- THE SUM OF NO COLUMNS: holders 0, 1 and 2 hand in 0 at round 0, and holder 3 any number x at any round r. It opens to zeros, or is refused.
+pub handed-none : (x r : ℕ) → Handed four 7 (kept-at-three .slip) (many 0) 15 (0 ∷ 0 ∷ 0 ∷ x ∷ []) (0 ∷ 0 ∷ 0 ∷ r ∷ [])
 unfolding sum bit unit every firstOf firstVec tab tabFrom dot members membersFrom isRow findRow hasRow determines combine
-handed-none x = demand3 .met four 7 dealings done (many 0) no-terms 15 (omega arith) refl (λ i. x)
+handed-none x r =
+    demand3 .met four 7 dealings nothing done none-done kept-at-three (many 0) no-terms 15 (omega arith) refl (λ i m n t u l o. refl)
+    (λ i. record { value = x; round = r })
 
-pub opened-none : (x : ℕ) (out : List ℕ) → length out ≡ 2
-    → Opens four 15 (0 ∷ 0 ∷ 0 ∷ x ∷ []) out (0 ∷ 0 ∷ []) ⊎ Refused four 15 (0 ∷ 0 ∷ 0 ∷ x ∷ []) out
-opened-none x out room =
-    let F = demand3 .found four 7 dealings done in
-    rw (F .no-columns (many 0) refl) at (F .opens (many 0) 15 (0 ∷ 0 ∷ 0 ∷ x ∷ []) out (handed-none x) room)
+pub opened-none : (x r : ℕ) (out : List ℕ) → length out ≡ 2
+    → Opens four 15 (0 ∷ 0 ∷ 0 ∷ x ∷ []) (0 ∷ 0 ∷ 0 ∷ r ∷ []) out (0 ∷ 0 ∷ []) ⊎ Refused four 15 (0 ∷ 0 ∷ 0 ∷ x ∷ []) (0 ∷ 0 ∷ 0 ∷ r ∷ []) out
+opened-none x r out room =
+    rw (found .no-columns (many 0) refl) at (found .now kept-at-three .opens (many 0) 15 (0 ∷ 0 ∷ 0 ∷ x ∷ []) (0 ∷ 0 ∷ 0 ∷ r ∷ []) out (handed-none x r) room)

@@ -24,9 +24,11 @@ use Rattle.scheme.proofs.Calls.{judge-accepts, judgeMapped-ok}
 use Rattle.scheme.proofs.Verdicts.{accept-when, MappedMeans, mapped-means}
 use Rattle.scheme.proofs.Members.{member-at}
 use Rattle.scheme.proofs.Sets.{theRow}
-use Rattle.demand.specs.Demand.{Dealing, Member, Keeps, Done, Terms, oneColumn, Handed, column, secretsOver, Opens, Refused, by-four, by-seven, Found}
+use Rattle.demand.specs.Demand.{Dealing, Member, Keeps, Done, DoneZero, Slips, keptAt, Refreshed, at-first, Reordered, none, Applied, Terms, InLimits, oneColumn, Handed, column, secretsOver, Opens, Refused, by-four, by-nineteen, by-seven, Found}
 use Rattle.demand.specs.Maps.{MappedDealing, firstDealing, secondDealing, Which, plain, first, second, together, KeepsMapped, DoneWithMaps, firsts, seconds, SecretAndMap, FoundWithMaps}
-use Rattle.demand.proofs.Demand.{demand3, combine-tab, array-by-row}
+use Rattle.demand.proofs.Given.{combine-tab}
+use Rattle.demand.proofs.Arrays.{array-by-row}
+use Rattle.demand.proofs.Demand.{demand3}
 
 -- the map of a sum with constants c, when every y a is position k of the map of x a, and z is that sum of the x a
 pub map-of-sum : (S : Setup) (phi : List ℕ) (k m : ℕ) (c y z : ℕ → ℕ) (x : ℕ → ℕ → ℕ) → ((a : ℕ) → a < m → y a ≡ imageAt S phi (x a) k)
@@ -89,17 +91,19 @@ both-done S group {I = I} {K = K} D phi T done = record { determined = done .pla
     delivered′ (second t) i j mi mj = done .delivered2 t i j mi mj
 
 -- an opening that answers was not refused, and so left the combination
-pub opened-to : (S : Setup) (group : ℕ) {I : Type 0} (D : I → Dealing) (F : Found S group D) (ts : Terms I) (openers : ℕ) (handed out : List ℕ)
-    → Handed S group D ts openers handed → length out ≡ S .l → openCall S openers handed out ≡ given []
-    → openLeft S openers handed out ≡ secretsOver S (F .array) ts
-opened-to S group D F ts openers handed out hand room e = go (F .opens ts openers handed out hand room)
+pub opened-to : (S : Setup) (group : ℕ) {I J : Type 0} (D : I → Dealing) (Z : J → Dealing) (F : Found S group D Z) (A : Applied S group D Z) (ts : Terms I)
+    (openers : ℕ) (handed rounds out : List ℕ) → Handed S group (A .slip) ts openers handed rounds → length out ≡ S .l → openCall S openers handed rounds out ≡ given []
+    → openLeft S openers handed rounds out ≡ secretsOver S (F .array) ts
+opened-to S group D Z F A ts openers handed rounds out hand room e = go (F .now A .opens ts openers handed rounds out hand room)
   where
-    number-is : (k : ℕ) → openCall S openers handed out .number ≡ k → k ≡ 0
+    number-is : (k : ℕ) → openCall S openers handed rounds out .number ≡ k → k ≡ 0
     number-is k z = sym z ∙ ap (λ (a : Answer). a .number) e
 
-    go : Opens S openers handed out (secretsOver S (F .array) ts) ⊎ Refused S openers handed out → openLeft S openers handed out ≡ secretsOver S (F .array) ts
+    go : Opens S openers handed rounds out (secretsOver S (F .array) ts) ⊎ Refused S openers handed rounds out
+        → openLeft S openers handed rounds out ≡ secretsOver S (F .array) ts
     go (inl o) = o .buffer
     go (inr (by-four x y)) = absurd (let z : _≡_ {A = ℕ} 4 0 = number-is 4 (ap (λ (a : Answer). a .number) x) in omega arith)
+    go (inr (by-nineteen d x y)) = absurd (let z : _≡_ {A = ℕ} 19 0 = number-is 19 (ap (λ (a : Answer). a .number) x) in omega arith)
     go (inr (by-seven x y)) = absurd (let z : _≡_ {A = ℕ} 7 0 = number-is 7 (ap (λ (a : Answer). a .number) x) in omega arith)
 
 -- THE MAP BETWEEN THE ARRAYS
@@ -113,16 +117,16 @@ module _ (S : Setup) (group : ℕ) {I K : Type 0} (D : I → Dealing) (phi : K �
       told S (T t .h i) (T t .values i) (T t .phi i) (T t .h2 i) (T t .values2 i) (done .keepers t i m .judged) .map k l
       ∙ ap (λ f. imageAt S f (at (T t .h i)) k) (done .one-map t i m)
 
-  module _ (F : Found S group (together D T)) where
+  module _ {J : Type 0} (Z : J → Dealing) (F : Found S group (together D T) Z) where
     tied′ : (t : K) (b : ℕ) → b < S .l → column (F .array (second t)) b ≡ image S (phi t) (column (F .array (first t)) b)
     tied′ t b h =
         let who = members (S .n) (holds group) in
         tab-is (S .l) _ 0 (column (F .array (second t)) b) (F .one (second t) .array .each b h .size)
         (λ k l.
-        array-by-row S group (together D T) all-done F (second t) b k h l
+        array-by-row S group (together D T) all-done Z F (second t) b k h l
         ∙ map-of-sum S (phi t) k (length who) (at (theRow S (holds group) b)) _ _ (λ a. at (T t .h (at who a)))
         (λ a o. checked t (at who a) (member-at (S .n) (holds group) a o) k l)
-        (λ j o. array-by-row S group (together D T) all-done F (first t) b j h o))
+        (λ j o. array-by-row S group (together D T) all-done Z F (first t) b j h o))
 
     -- and between combinations of them
     tied-over : (ts : Terms K) (m : List ℕ) → ((s : ℕ) → s < ts .count → phi (ts .dealing s) ≡ m) → ((s : ℕ) → s < ts .count → ts .column s < S .l)
@@ -137,33 +141,40 @@ module _ (S : Setup) (group : ℕ) {I K : Type 0} (D : I → Dealing) (phi : K �
         ∙ ap (λ f. imageAt S f (at (column (F .array (first (ts .dealing s))) (ts .column s))) k) (same s o))
         (λ j o. getD-tab (S .l) _ 0 j o ∙ combine-tab (S .p) (ts .count) (ts .constant) _))
 
-    combined′ : (ts : Terms K) (m : List ℕ) → ((s : ℕ) → s < ts .count → phi (ts .dealing s) ≡ m)
-        → (openers : ℕ) (handed out : List ℕ) → Handed S group (together D T) (firsts ts) openers handed → length out ≡ S .l
-        → (openers2 : ℕ) (handed2 out2 : List ℕ) → Handed S group (together D T) (seconds ts) openers2 handed2 → length out2 ≡ S .l
-        → openCall S openers handed out ≡ given [] → openCall S openers2 handed2 out2 ≡ given []
-        → SecretAndMap S m (secretsOver S (F .array) (firsts ts)) (openLeft S openers handed out) (openLeft S openers2 handed2 out2)
-    combined′ ts m same openers handed out hand room openers2 handed2 out2 hand2 room2 e e2 =
-        let secret = opened-to S group (together D T) F (firsts ts) openers handed out hand room e in
-        record {
-          secret = secret;
-          map =
-              opened-to S group (together D T) F (seconds ts) openers2 handed2 out2 hand2 room2 e2
-              ∙ tied-over ts m same (hand .limits .columns)
-              ∙ ap (image S m) (sym secret);
-        }
+    module _ (A A2 : Applied S group (together D T) Z) where
+      combined′ : (ts : Terms K) (m : List ℕ) → ((s : ℕ) → s < ts .count → phi (ts .dealing s) ≡ m)
+          → (openers : ℕ) (handed rounds out : List ℕ) → Handed S group (A .slip) (firsts ts) openers handed rounds → length out ≡ S .l
+          → (openers2 : ℕ) (handed2 rounds2 out2 : List ℕ) → Handed S group (A2 .slip) (seconds ts) openers2 handed2 rounds2 → length out2 ≡ S .l
+          → openCall S openers handed rounds out ≡ given [] → openCall S openers2 handed2 rounds2 out2 ≡ given []
+          → SecretAndMap S m (secretsOver S (F .array) (firsts ts)) (openLeft S openers handed rounds out) (openLeft S openers2 handed2 rounds2 out2)
+      combined′ ts m same openers handed rounds out hand room openers2 handed2 rounds2 out2 hand2 room2 e e2 =
+          let secret = opened-to S group (together D T) Z F A (firsts ts) openers handed rounds out hand room e in
+          record {
+            secret = secret;
+            map =
+                opened-to S group (together D T) Z F A2 (seconds ts) openers2 handed2 rounds2 out2 hand2 room2 e2
+                ∙ tied-over ts m same (hand .limits .columns)
+                ∙ ap (image S m) (sym secret);
+          }
 
-    opened′ : (t : K) (b openers : ℕ) (handed out : List ℕ) → Handed S group (together D T) (oneColumn (first t) b) openers handed → length out ≡ S .l
-        → (openers2 : ℕ) (handed2 out2 : List ℕ) → Handed S group (together D T) (oneColumn (second t) b) openers2 handed2 → length out2 ≡ S .l
-        → openCall S openers handed out ≡ given [] → openCall S openers2 handed2 out2 ≡ given []
-        → SecretAndMap S (phi t) (column (F .array (first t)) b) (openLeft S openers handed out) (openLeft S openers2 handed2 out2)
-    opened′ t b openers handed out hand room openers2 handed2 out2 hand2 room2 e e2 =
-        let r = combined′ (oneColumn t b) (phi t) (λ s o. refl) openers handed out hand room openers2 handed2 out2 hand2 room2 e e2 in
-        record { secret = r .secret ∙ F .one-column (first t) b (hand .limits .columns 0 (omega arith)); map = r .map }
+      opened′ : (t : K) (b : ℕ)
+          → (openers : ℕ) (handed rounds out : List ℕ) → Handed S group (A .slip) (oneColumn (first t) b) openers handed rounds → length out ≡ S .l
+          → (openers2 : ℕ) (handed2 rounds2 out2 : List ℕ) → Handed S group (A2 .slip) (oneColumn (second t) b) openers2 handed2 rounds2 → length out2 ≡ S .l
+          → openCall S openers handed rounds out ≡ given [] → openCall S openers2 handed2 rounds2 out2 ≡ given []
+          → SecretAndMap S (phi t) (column (F .array (first t)) b) (openLeft S openers handed rounds out) (openLeft S openers2 handed2 rounds2 out2)
+      opened′ t b openers handed rounds out hand room openers2 handed2 rounds2 out2 hand2 room2 e e2 =
+          let r = combined′ (oneColumn t b) (phi t) (λ s o. refl) openers handed rounds out hand room openers2 handed2 rounds2 out2 hand2 room2 e e2 in
+          record { secret = r .secret ∙ F .one-column (first t) b (hand .limits .columns 0 (omega arith)); map = r .map }
 
-  pub found-with-maps : FoundWithMaps S group D phi T
-  found-with-maps =
-      let F = demand3 .found S group (together D T) all-done in
-      record { dealings = F; tied = tied′ F; opened = opened′ F; combined = combined′ F }
+  pub found-with-maps : {J : Type 0} (Z : J → Dealing) → DoneZero S group Z → FoundWithMaps S group D phi T Z
+  found-with-maps Z doneZero =
+      let F = demand3 .found S group (together D T) Z all-done doneZero in
+      record {
+        dealings = F;
+        tied = tied′ Z F;
+        opened = λ t b A A2. opened′ Z F A A2 t b;
+        combined = λ ts m same A A2. combined′ Z F A A2 ts m same;
+      }
 
 -- WITHOUT MAPS
 pub without-maps : (S : Setup) (group : ℕ) {I : Type 0} (D : I → Dealing) → Done S group D → DoneWithMaps S group {K = ⊥} D (λ t. absurd t) (λ t. absurd t)
@@ -176,26 +187,79 @@ without-maps S group D done =
       delivered2 = λ t. absurd t;
     }
 
-pub plain-found : (S : Setup) (group : ℕ) {I K : Type 0} (D : I → Dealing) (T : K → MappedDealing) → Found S group (together D T) → Found S group D
-plain-found S group {I = I} {K = K} D T F =
-    record {
-      array = λ t. F .array (plain t);
-      one = λ t. F .one (plain t);
-      opens = λ ts openers handed out hand room. F .opens (plains ts) openers handed out (as-plain ts openers handed hand) room;
-      never-refused = λ ts openers handed out hand room sub. F .never-refused (plains ts) openers handed out (as-plain ts openers handed hand) room sub;
-      one-column = λ t b h. F .one-column (plain t) b h;
-      no-columns = λ ts e. F .no-columns (plains ts) e;
-    }
-  where
-    plains : Terms I → Terms (Which I K)
-    plains ts = record { count = ts .count; constant = ts .constant; dealing = λ s. plain (ts .dealing s); column = ts .column }
+-- what is applied to plain dealings, among dealings with a map that nobody refreshes
+module _ (S : Setup) (group : ℕ) {I K J : Type 0} (D : I → Dealing) (T : K → MappedDealing) (Z : J → Dealing) where
+  module _ (A : Applied S group D Z) where
+    abbrev firstRound : Which I K → ℕ
+    firstRound (plain t) = A .first t
+    firstRound (first t) = 0
+    firstRound (second t) = 0
 
-    as-plain : (ts : Terms I) (openers : ℕ) (handed : List ℕ) → Handed S group D ts openers handed → Handed S group (together D T) (plains ts) openers handed
-    as-plain ts openers handed hand =
-        record {
-          limits = record { few = hand .limits .few; columns = hand .limits .columns; constants = hand .limits .constants };
-          below = hand .below;
-          count = hand .count;
-          by-rule = hand .by-rule;
-          present = hand .present;
-        }
+    abbrev orders : Which I K → ℕ → ℕ → List J
+    orders (plain t) = A .order t
+    orders (first t) = λ b i. []
+    orders (second t) = λ b i. []
+
+    abbrev slips : Slips (Which I K)
+    slips (plain t) = A .slip t
+    slips (first t) = keptAt (firstDealing (T t)) 0
+    slips (second t) = keptAt (secondDealing (T t)) 0
+
+    refreshed′ : (c : Which I K) (b i : ℕ) → b < S .l → Member S group i → Refreshed S Z b i (keptAt (together D T c) (firstRound c) b i) (orders c b i) (slips c b i)
+    refreshed′ (plain t) b i l m = A .refreshed t b i l m
+    refreshed′ (first t) b i l m = at-first
+    refreshed′ (second t) b i l m = at-first
+
+    same′ : (c : Which I K) (b i k : ℕ) → b < S .l → Member S group i → Member S group k → slips c b i .round ≡ slips c b k .round
+        → Reordered (orders c b i) (orders c b k)
+    same′ (plain t) b i k l m n e = A .same t b i k l m n e
+    same′ (first t) b i k l m n e = none
+    same′ (second t) b i k l m n e = none
+
+    abbrev among : Applied S group (together D T) Z
+    among = record { first = firstRound; order = orders; slip = slips; refreshed = refreshed′; same = same′ }
+
+  abbrev plains : Terms I → Terms (Which I K)
+  plains ts = record { count = ts .count; constant = ts .constant; dealing = λ s. plain (ts .dealing s); column = ts .column }
+
+  plain-limits : (ts : Terms I) → InLimits S ts → InLimits S (plains ts)
+  plain-limits ts lim = record { few = lim .few; columns = lim .columns; constants = lim .constants }
+
+  as-plain : (A : Applied S group D Z) (ts : Terms I) (openers : ℕ) (handed rounds : List ℕ) → Handed S group (A .slip) ts openers handed rounds
+      → Handed S group (slips A) (plains ts) openers handed rounds
+  as-plain A ts openers handed rounds hand =
+      record {
+        limits = plain-limits ts (hand .limits);
+        below = hand .below;
+        count = hand .count;
+        count-rounds = hand .count-rounds;
+        by-rule = hand .by-rule;
+        present = hand .present;
+      }
+
+  pub plain-found : Found S group (together D T) Z → Found S group D Z
+  plain-found F =
+      record {
+        array = λ t. F .array (plain t);
+        one = λ t. F .one (plain t);
+        zero = F .zero;
+        now = λ A.
+            let N = F .now (among A) in
+            record {
+              agrees = λ t. N .agrees (plain t);
+              alone = λ t. N .alone (plain t);
+              opens = λ ts openers handed rounds out hand. N .opens (plains ts) openers handed rounds out (as-plain A ts openers handed rounds hand);
+              never-refused = λ ts openers handed rounds out hand room sub level.
+                  N .never-refused (plains ts) openers handed rounds out (as-plain A ts openers handed rounds hand) room sub level;
+              lagging = λ ts openers handed rounds out hand room sub.
+                  N .lagging (plains ts) openers handed rounds out (as-plain A ts openers handed rounds hand) room sub;
+              stands = λ t. N .stands (plain t);
+              within = λ t. N .within (plain t);
+              refreshes = λ t. N .refreshes (plain t);
+              last-round = λ t. N .last-round (plain t);
+              combines = λ ts i lim m one. N .combines (plains ts) i (plain-limits ts lim) m one;
+              apart = λ ts i t u lim m l o ne. N .apart (plains ts) i t u (plain-limits ts lim) m l o ne;
+            };
+        one-column = λ t b h. F .one-column (plain t) b h;
+        no-columns = λ ts e. F .no-columns (plains ts) e;
+      }

@@ -10,7 +10,7 @@ use Rattle.scheme.specs.Setup.{Setup, dim}
 use Rattle.scheme.specs.Answers.{yes}
 use Rattle.scheme.specs.Calls.{determinesCall}
 use Rattle.scheme.proofs.Calls.{limits-pos, DealOk, determines-ok}
-use Rattle.demand.specs.Demand.{Dealing, Terms, Found, NothingDealt}
+use Rattle.demand.specs.Demand.{Terms, FoundUnrefreshed, NothingDealt}
 use Rattle.demand.proofs.Demand.{demand3}
 use Rattle.demand.proofs.Honest.{run, run-done}
 
@@ -25,14 +25,15 @@ inputs S group e =
 
 pub nothing-dealt : NothingDealt
 unfolding tab tabFrom
-nothing-dealt S group e openers handed out below count present by room =
-    let F : Found S group (λ (t : Unit {0}). run S _ _ (inputs S group e)) = demand3 .found S group _ (run-done S _ _ (inputs S group e) group e) in
+nothing-dealt S group e openers handed rounds out below count count-rounds present by room =
+    let F : FoundUnrefreshed S group (λ (t : Unit {0}). run S _ _ (inputs S group e)) = demand3 .before S group _ (run-done S _ _ (inputs S group e) group e) in
     let none : Terms (Unit {0}) = record { count = 0; constant = λ t. 0; dealing = λ t. tt; column = λ t. 0 } in
-    rw (F .no-columns none refl) at (F .opens none openers handed out
+    rw (F .no-columns none refl) at (F .opens (λ t. 0) none openers handed rounds out
     (record {
       limits = record { few = omega arith; columns = λ t l. absurd (omega arith); constants = λ t l. absurd (omega arith) };
       below = below;
       count = count;
+      count-rounds = count-rounds;
       by-rule = λ a l t. by a (omega (arith, count)) t;
       present = present;
     }) room)

@@ -1,7 +1,8 @@
--- Demand 3 with dealings tied by a public map (document 02, A7; source document 000, figure 4 and lemma 5), as one statement over plain dealings and
--- dealings with a map together. Like Demand.antt it is stated over the calls' own definitions, so that nothing is assumed which a call does not check;
--- proofs/Maps.antt and proofs/HonestMaps.antt prove it. Quoted lines are A7's, but for those marked as of another document. The map itself, `image`, is
--- defined in crate scheme (Dealing.antt): φ is ℓ by ℓ and by rows, and position k of the map of a vector is row k of φ times the vector's first ℓ entries.
+-- Demand 3 with dealings tied by a public map (document 02, A7; source document 000, figure 4 and lemma 5), in every round (A8), as one statement over plain
+-- dealings, dealings with a map and zero dealings together. Like Demand.antt it is stated over the calls' own definitions, so that nothing is assumed which
+-- a call does not check; proofs/Maps.antt and proofs/HonestMaps.antt prove it. Quoted lines are A7's, but for those marked as of another request or
+-- document. The map itself, `image`, is defined in crate scheme (Dealing.antt): φ is ℓ by ℓ and by rows, and position k of the map of a vector is row k of φ
+-- times the vector's first ℓ entries.
 -- MappedDealing: a dealing with a map, as it ended at each holder; firstDealing, secondDealing: its two dealings, as Demand.antt has a dealing
 -- Which: a plain dealing, or the first or the second of a dealing with a map; together: all dealings as one family
 -- KeepsMapped: a member kept its shares of both by the rules; DoneWithMaps: what was done before
@@ -24,7 +25,7 @@ use Rattle.scheme.specs.Setup.{Setup, dim}
 use Rattle.scheme.specs.Answers.{accepts, kept, yes}
 use Rattle.scheme.specs.Dealing.{image}
 use Rattle.scheme.specs.Calls.{Buffers, dealMappedCall, dealMappedLeft, secondDealt, pairValueCall, judgeMappedCall, outcomeCall, outcomeLeft, determinesCall, openCall, openLeft}
-use Rattle.demand.specs.Demand.{Dealing, Member, Done, Terms, oneColumn, InLimits, Present, Handed, handedIn, Array, column, ExactlyOne, secretsOver, Opens, Found, Honest, arrayDealt}
+use Rattle.demand.specs.Demand.{Dealing, Member, Done, DoneZero, Slip, Applied, Terms, oneColumn, InLimits, Present, Handed, AtOneRound, Level, handsIn, valuesBy, roundsBy, Array, column, ExactlyOne, secretsOver, Opens, Found, Honest, arrayDealt}
 
 -- WHAT IS GIVEN
 
@@ -97,23 +98,25 @@ pub record SecretAndMap (S : Setup) (phi xs left left2 : List ℕ) : Type 0 wher
   pub secret : left ≡ xs
   pub map : left2 ≡ image S phi left
 
-pub record FoundWithMaps (S : Setup) (group : ℕ) {I K : Type 0} (D : I → Dealing) (phi : K → List ℕ) (T : K → MappedDealing) : Type 0 where
-  -- "both count as dealings in demand 3": exactly one array each, and a list may take columns of plain, first and second dealings together
-  pub dealings : Found S group (together D T)
+pub record FoundWithMaps (S : Setup) (group : ℕ) {I K J : Type 0} (D : I → Dealing) (phi : K → List ℕ) (T : K → MappedDealing) (Z : J → Dealing) : Type 0 where
+  -- "both count as dealings in demand 3": exactly one array each, and a list may take columns of plain, first and second dealings together; and A8's "What
+  -- the mission says of openings holds in every round" of all of them
+  pub dealings : Found S group (together D T) Z
   -- source document 000, lemma 5: "If the dealer .. is corrupt, but no player rejects", then "φ(s^b) = s^{φ,b}" for any column b
   pub tied : (t : K) (b : ℕ) → b < S .l → column (dealings .array (second t)) b ≡ image S (phi t) (column (dealings .array (first t)) b)
   -- "a user for whom a column opens in both finds a secret and its map, though the dealer lied": wherever both openings answer, whoever the openers of each
-  -- are and whatever those outside the group hand in
-  pub opened : (t : K) (b openers : ℕ) (handed out : List ℕ) → Handed S group (together D T) (oneColumn (first t) b) openers handed → length out ≡ S .l
-      → (openers2 : ℕ) (handed2 out2 : List ℕ) → Handed S group (together D T) (oneColumn (second t) b) openers2 handed2 → length out2 ≡ S .l
-      → openCall S openers handed out ≡ given [] → openCall S openers2 handed2 out2 ≡ given []
-      → SecretAndMap S (phi t) (column (dealings .array (first t)) b) (openLeft S openers handed out) (openLeft S openers2 handed2 out2)
+  -- are, whatever those outside the group hand in, and in whichever rounds: A and A2 are what the members had applied at each opening
+  pub opened : (t : K) (b : ℕ) (A A2 : Applied S group (together D T) Z)
+      → (openers : ℕ) (handed rounds out : List ℕ) → Handed S group (A .slip) (oneColumn (first t) b) openers handed rounds → length out ≡ S .l
+      → (openers2 : ℕ) (handed2 rounds2 out2 : List ℕ) → Handed S group (A2 .slip) (oneColumn (second t) b) openers2 handed2 rounds2 → length out2 ≡ S .l
+      → openCall S openers handed rounds out ≡ given [] → openCall S openers2 handed2 rounds2 out2 ≡ given []
+      → SecretAndMap S (phi t) (column (dealings .array (first t)) b) (openLeft S openers handed rounds out) (openLeft S openers2 handed2 rounds2 out2)
   -- and so for a combination of columns whose dealings have one map: the same columns and constants of the second dealings open to the map
-  pub combined : (ts : Terms K) (m : List ℕ) → ((s : ℕ) → s < ts .count → phi (ts .dealing s) ≡ m)
-      → (openers : ℕ) (handed out : List ℕ) → Handed S group (together D T) (firsts ts) openers handed → length out ≡ S .l
-      → (openers2 : ℕ) (handed2 out2 : List ℕ) → Handed S group (together D T) (seconds ts) openers2 handed2 → length out2 ≡ S .l
-      → openCall S openers handed out ≡ given [] → openCall S openers2 handed2 out2 ≡ given []
-      → SecretAndMap S m (secretsOver S (dealings .array) (firsts ts)) (openLeft S openers handed out) (openLeft S openers2 handed2 out2)
+  pub combined : (ts : Terms K) (m : List ℕ) → ((s : ℕ) → s < ts .count → phi (ts .dealing s) ≡ m) → (A A2 : Applied S group (together D T) Z)
+      → (openers : ℕ) (handed rounds out : List ℕ) → Handed S group (A .slip) (firsts ts) openers handed rounds → length out ≡ S .l
+      → (openers2 : ℕ) (handed2 rounds2 out2 : List ℕ) → Handed S group (A2 .slip) (seconds ts) openers2 handed2 rounds2 → length out2 ≡ S .l
+      → openCall S openers handed rounds out ≡ given [] → openCall S openers2 handed2 rounds2 out2 ≡ given []
+      → SecretAndMap S m (secretsOver S (dealings .array) (firsts ts)) (openLeft S openers handed rounds out) (openLeft S openers2 handed2 rounds2 out2)
 
 -- WHERE ALL FOLLOW THE RULES
 
@@ -167,28 +170,36 @@ arraysDealt S secrets random X (first t) = arrayDealt S (X t .secrets) (X t .ran
 arraysDealt S secrets random X (second t) = arrayMapped S (X t)
 
 -- Any family of such dealings, plain and with a map, on one setup: every group that determines the secrets has done what Demand3WithMaps asks, the arrays
--- found are those dealt, and so every combination that members of the group open gives that combination of the arrays dealt.
-pub record MapFamilyFound (S : Setup) {I K : Type 0} (secrets random : I → List ℕ) (D : I → Dealing) (X : K → MapInputs) (T : K → MappedDealing) : Type 0 where
+-- found are those dealt, and so every combination that members of the group open gives that combination of the arrays dealt, in every round.
+pub record MapFamilyFound (S : Setup) {I K J : Type 0} (secrets random : I → List ℕ) (D : I → Dealing) (X : K → MapInputs) (T : K → MappedDealing) (Z : J → Dealing) : Type 0 where
   pub done : (group : ℕ) → determinesCall S group ≡ yes → DoneWithMaps S group D (λ t. X t .phi) T
-  pub arrays : (group : ℕ) → determinesCall S group ≡ yes → (F : Found S group (together D T)) (c : Which I K) → F .array c ≡ arraysDealt S secrets random X c
-  pub opens : (group : ℕ) → determinesCall S group ≡ yes
-      → (ts : Terms (Which I K)) (openers : ℕ) (handed out : List ℕ) → Handed S group (together D T) ts openers handed → length out ≡ S .l
-      → ((i : ℕ) → Member S openers i → Member S group i)
-      → Opens S openers handed out (secretsOver S (arraysDealt S secrets random X) ts)
+  pub arrays : (group : ℕ) → determinesCall S group ≡ yes
+      → (F : Found S group (together D T) Z) (c : Which I K) → F .array c ≡ arraysDealt S secrets random X c
+  pub opens : (group : ℕ) → determinesCall S group ≡ yes → DoneZero S group Z → (A : Applied S group (together D T) Z)
+      → (ts : Terms (Which I K)) (openers : ℕ) (handed rounds out : List ℕ) → Handed S group (A .slip) ts openers handed rounds → length out ≡ S .l
+      → ((i : ℕ) → Member S openers i → Member S group i) → Level S (A .slip) ts openers
+      → Opens S openers handed rounds out (secretsOver S (arraysDealt S secrets random X) ts)
 
 -- DEMAND 3 WITH MAPS
 pub record Demand3WithMaps : Type 1 where
-  -- demand 3 with maps itself, whatever the dealers and all others sent
-  pub found : (S : Setup) (group : ℕ) {I K : Type 0} (D : I → Dealing) (phi : K → List ℕ) (T : K → MappedDealing) → DoneWithMaps S group D phi T
-      → FoundWithMaps S group D phi T
-  -- `found` speaks of every list within the limits: whatever the others hand in, there is a list handed in
-  pub met : (S : Setup) (group : ℕ) {I K : Type 0} (D : I → Dealing) (phi : K → List ℕ) (T : K → MappedDealing) → DoneWithMaps S group D phi T
+  -- demand 3 with maps itself in every round, whatever the dealers and all others sent
+  pub found : (S : Setup) (group : ℕ) {I K J : Type 0} (D : I → Dealing) (phi : K → List ℕ) (T : K → MappedDealing) (Z : J → Dealing)
+      → DoneWithMaps S group D phi T → DoneZero S group Z → FoundWithMaps S group D phi T Z
+  -- all of them together are a family of which demand 3 speaks, and so there are the slips to which zero dealings lead (`applied` of Demand3)
+  pub joined : (S : Setup) (group : ℕ) {I K : Type 0} (D : I → Dealing) (phi : K → List ℕ) (T : K → MappedDealing)
+      → DoneWithMaps S group D phi T → Done S group (together D T)
+  -- `found` speaks of every list within the limits whose columns stand at one round for each opener of the group: whatever the others hand in, there are
+  -- lists handed in
+  pub met : (S : Setup) (group : ℕ) {I K J : Type 0} (D : I → Dealing) (phi : K → List ℕ) (T : K → MappedDealing) (Z : J → Dealing)
+      → DoneWithMaps S group D phi T → DoneZero S group Z → (A : Applied S group (together D T) Z)
       → (ts : Terms (Which I K)) → InLimits S ts → (openers : ℕ) → openers < 2 ^ S .n → Present S group openers
-      → (others : ℕ → ℕ) → Handed S group (together D T) ts openers (handedIn S group (together D T) ts openers others)
+      → ((i : ℕ) → Member S openers i → Member S group i → AtOneRound (A .slip) ts i) → (others : ℕ → Slip)
+      → let slip = handsIn S group (A .slip) ts others in Handed S group (A .slip) ts openers (valuesBy S openers slip) (roundsBy S openers slip)
   -- Demand 3 without maps is an instance: it asks what is asked here of no dealing with a map, and what is found for all dealings is found for the plain ones
   pub without : (S : Setup) (group : ℕ) {I : Type 0} (D : I → Dealing) → Done S group D → DoneWithMaps S group {K = ⊥} D (λ t. absurd t) (λ t. absurd t)
-  pub plain-ones : (S : Setup) (group : ℕ) {I K : Type 0} (D : I → Dealing) (T : K → MappedDealing) → Found S group (together D T) → Found S group D
+  pub plain-ones : (S : Setup) (group : ℕ) {I K J : Type 0} (D : I → Dealing) (T : K → MappedDealing) (Z : J → Dealing)
+      → Found S group (together D T) Z → Found S group D Z
   -- where all follow the rules and every message arrives: one dealing with a map, and any family of dealings
   pub honest : (S : Setup) (X : MapInputs) (T : MappedDealing) → HonestMapped S X T → HonestMappedFound S X T
-  pub families : (S : Setup) {I K : Type 0} (secrets random : I → List ℕ) (D : I → Dealing) (X : K → MapInputs) (T : K → MappedDealing)
-      → ((t : I) → Honest S (secrets t) (random t) (D t)) → ((t : K) → HonestMapped S (X t) (T t)) → MapFamilyFound S secrets random D X T
+  pub families : (S : Setup) {I K J : Type 0} (secrets random : I → List ℕ) (D : I → Dealing) (X : K → MapInputs) (T : K → MappedDealing) (Z : J → Dealing)
+      → ((t : I) → Honest S (secrets t) (random t) (D t)) → ((t : K) → HonestMapped S (X t) (T t)) → MapFamilyFound S secrets random D X T Z

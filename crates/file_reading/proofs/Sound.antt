@@ -18,28 +18,38 @@ use Rattle.base.specs.Matrix.{Below}
 use Rattle.base.proofs.Choice.{picked}
 use Rattle.base.proofs.Rules.{clear, none-applies}
 use Rattle.scheme.specs.Setup.{Setup, dim}
-use Rattle.scheme.specs.Calls.{limits}
-use Rattle.scheme.proofs.Calls.{limits-clear, limits-pos, below-vec, elements-clear}
-use Rattle.record_layouts.specs.Words.{bytes, Bytes}
+use Rattle.scheme.specs.Calls.{limits, sizes}
+use Rattle.scheme.proofs.Calls.{limits-clear, limits-pos, below-vec, size-clear, elements-clear}
+use Rattle.record_layouts.specs.Words.{bytes, wordAt, Bytes}
 use Rattle.record_layouts.proofs.Words.{length-bytes, word-of}
 use Rattle.record_layouts.specs.declared.DealingRecord.{DealingRecord}
-use Rattle.record_layouts.specs.Records.{markPV, markPF, markDF, setupWords, dealingWords, mappedWords, allWords, pairLayoutOf, verdictWords, setupSize, dealingSize, mappedSize, setupAt, dealingAt, dealingG, dealingH, mappedPhi, readSetupRules, standingRules, dealingFaults, mappedLayout}
+use Rattle.record_layouts.specs.Records.{DealingParts, parts, markSU, markDL, markDZ, markPV, markPF, markDF, setupWords, mappedWords, allWords, pairLayoutOf, verdictWords, setupSize, mappedSize, dealingAt, dealingG, partsH, readSetupRules, standingRules, dealingFaults, mappedLayout}
 use Rattle.record_layouts.proofs.Calls.{dim-small, matrix-small}
-use Rattle.record_layouts.proofs.Layouts.{dealing-at, row-at, column-at, mapped-at, mapped-row-at, mapped-column-at, mapped-phi-at}
-use Rattle.record_layouts.proofs.ReadBack.{setup-at, setup-fair, dealing-fair, mapped-fair}
+use Rattle.record_layouts.proofs.Layouts.{mapped-at, mapped-row-at, mapped-column-at, mapped-phi-at}
+use Rattle.record_layouts.proofs.ReadBack.{setup-at, setup-fair, stands, mapped-fair}
 use Rattle.file_records.specs.declared.Head.{Head}
 use Rattle.file_records.specs.Received.{faultAt, reached, place, sentAt, verdictsAt, joined, sent, said, pairs, verdicts, received}
 use Rattle.file_records.proofs.Reading.{pairs-some}
 use Rattle.file_records.proofs.Records.{size, starts, not-refused, values-back, values2-back, verdicts-back}
-use Rattle.file_reading.specs.Contents.{Second, Kind, plain, mapped, Contents, isMapped, values2, OfKind, InOrder, numbers, head, mappedBytes, fileBytes}
-use Rattle.file_reading.specs.File.{FileRead, whole, setupFault, dealingFault, hasMap, mappedRules, mappedFault, firstByte, start, kindAt, contentsOf, ofContents, orRefused, ofReceived, readFile}
+use Rattle.file_reading.specs.Contents.{Second, Kind, plain, mapped, Contents, isMapped, isZero, columns, partLayout, values2, OfKind, InOrder, numbers, head, mappedBytes, fileBytes}
+use Rattle.file_reading.specs.Contents as contents
+use Rattle.file_reading.specs.File.{FileRead, whole, setupFault, hasZero, dealingFault, hasMap, mappedRules, mappedFault, firstByte, start, kindAt, contentsOf, ofContents, orRefused, ofReceived, readFile}
 use Rattle.file_reading.specs.Sound.{Written, ReadsBack, Follows}
-use Rattle.file_reading.proofs.Steps.{same-contents, setup-own, isSecond, deal-own, has-mark, map-none, map-own, of-whole, goes-on, file-next, field-le}
+use Rattle.file_reading.proofs.Steps.{same-contents, setup-own, part-lawful, part-size, columns-le, zero-mark, isSecond, deal-own, has-no-place, has-mark, map-none, map-own, of-whole, goes-on, file-next, field-le}
 use Rattle.file_reading.proofs.Whole.{whole-in-order, whole-bytes}
 
 and-false : (b : Bool) → (b && false) ≡ false
 and-false true = refl
 and-false false = refl
+
+-- the mark of DL or DZ
+marked-zero : (z : Bool) → eqb (pick z markDZ markDL) markDZ ≡ z
+marked-zero true = refl
+marked-zero false = refl
+
+no-setup : (z : Bool) → eqb (pick z markDZ markDL) markSU ≡ false
+no-setup true = refl
+no-setup false = refl
 
 -- words of 16 bits are two bytes each
 below-cons : (p x : ℕ) (l : List ℕ) → x < p → Below p l → Below p (x ∷ l)
@@ -84,11 +94,17 @@ module _ (C : Contents) (ok : InOrder C) where
   abbrev h : Head
   h = head C
 
+  abbrev z : Bool
+  z = isZero (C .kind)
+
+  abbrev part : DealingParts
+  part = parts (numbers C) (C .g) (C .h)
+
   abbrev su : List ℕ
   su = bytes (setupWords (C .setup))
 
   abbrev dl : List ℕ
-  dl = bytes (dealingWords (numbers C) (C .g) (C .h))
+  dl = bytes (allWords (partLayout (isZero (C .kind))) (parts (numbers C) (C .g) (C .h)))
 
   abbrev df : List ℕ
   df = mappedBytes (numbers C) (C .kind)
@@ -99,14 +115,15 @@ module _ (C : Contents) (ok : InOrder C) where
   su-size : length su ≡ setupSize S
   su-size = omega (arith, length-bytes (setupWords S), ok .setup .matrix .size)
 
-  dl-size : length dl ≡ dealingSize S
-  dl-size = omega (arith, length-bytes (dealingWords x (C .g) (C .h)), length-append (C .g) (C .h), ok .row .size, ok .column .size)
+  dl-size : length dl ≡ partLayout z .size S
+  dl-size = omega (arith, length-bytes (allWords (partLayout z) part), length-append (C .g) (C .h), ok .row .size, ok .column .size, part-size z S)
 
   df-size : length df ≡ pick (isMapped (C .kind)) (mappedSize S) 0
   df-size = go (C .kind) (ok .second)
     where
       go : (k : Kind) → OfKind S k → length (mappedBytes x k) ≡ pick (isMapped k) (mappedSize S) 0
       go plain o = refl
+      go contents.zero o = refl
       go (mapped y) o =
           omega (
             arith,
@@ -121,7 +138,7 @@ module _ (C : Contents) (ok : InOrder C) where
   limits-ok : Clear (limits S)
   limits-ok = limits-clear S (ok .setup .limits)
 
-  whole-size : length (fileBytes C) ≡ setupSize S + dealingSize S + pick (isMapped (C .kind)) (mappedSize S) 0 + length rest
+  whole-size : length (fileBytes C) ≡ setupSize S + partLayout z .size S + pick (isMapped (C .kind)) (mappedSize S) 0 + length rest
   whole-size = omega (arith, length-append su (dl ++ (df ++ rest)), length-append dl (df ++ rest), length-append df rest, su-size, dl-size, df-size)
 
   no-setup-fault : setupFault (fileBytes C) ≡ 0
@@ -132,45 +149,63 @@ module _ (C : Contents) (ok : InOrder C) where
   behind : drop (setupSize S) (fileBytes C) ≡ dl ++ (df ++ rest)
   behind = drop-at su (dl ++ (df ++ rest)) (setupSize S) su-size
 
-  first-there : isSecond (dl ++ (df ++ rest)) ≡ false
-  first-there = rw (word-of (dealingWords x (C .g) (C .h)) (df ++ rest) 0 (omega arith)) (and-false (not (ltb (length (dl ++ (df ++ rest))) 2)))
+  mark-there : wordAt (dl ++ (df ++ rest)) 0 ≡ pick z markDZ markDL
+  mark-there = word-of (allWords (partLayout z) part) (df ++ rest) 0 (omega arith)
 
-  -- the two numbers of DL, and of DF
+  first-there : isSecond (dl ++ (df ++ rest)) ≡ false
+  first-there = rw (mark-there, no-setup z) (and-false (not (ltb (length (dl ++ (df ++ rest))) 2)))
+
+  zero-there : hasZero (dl ++ (df ++ rest)) ≡ z
+  zero-there =
+      zero-mark (dl ++ (df ++ rest)) (omega (arith, length-append dl (df ++ rest), dl-size, part-size z S))
+      ∙ ap (λ (w : ℕ). eqb w markDZ) mark-there ∙ marked-zero z
+
+  lists-long : Clear (sizes (partLayout z .lists S part))
+  lists-long = (size-clear _ _ (ok .row .size), (size-clear _ _ (ok .column .size), tt))
+
+  part-back : partLayout z .at S (dl ++ (df ++ rest)) ≡ part
+  part-back = part-lawful z .again S part (df ++ rest) lists-long
+
+  -- the two numbers of DL or DZ, and of DF
   numbers-clear : Clear (dealingFaults S x)
   numbers-clear = (lt-leb (S .n) (C .holder) (ok .holder), (ne-eqb (C .dealing) 0 (λ z. omega (arith, z, ok .dealing .0)), tt))
 
   no-dealing-fault : dealingFault S (drop (setupSize S) (fileBytes C)) ≡ 0
   no-dealing-fault =
       rw behind
-      (sym (deal-own S (dl ++ (df ++ rest)) (λ z. omega (arith, z, length-append dl (df ++ rest), dl-size)) first-there)
-      ∙ dealing-fair S x (C .g) (C .h) (df ++ rest) (ok .row .size) (ok .column .size)
-      (elements-clear (S .p) (dim S) (C .g) (ok .row), (elements-clear (S .p) (dim S) (C .h) (ok .column), numbers-clear)))
+      (sym (deal-own S (dl ++ (df ++ rest)) (λ e. omega (arith, e, length-append dl (df ++ rest), dl-size, part-size z S)) first-there)
+      ∙ ap (λ (b : Bool). refusal (standingRules (partLayout b) S (dl ++ (df ++ rest)))) zero-there
+      ∙ stands (partLayout z) (part-lawful z) S part (df ++ rest) lists-long
+      (elements-clear (S .p) (dim S) (C .g) (ok .row), (elements-clear (S .p) (columns z S) (C .h) (ok .column), numbers-clear)))
 
-  behind-both : drop (firstByte S) (fileBytes C) ≡ df ++ rest
+  behind-both : drop (firstByte S z) (fileBytes C) ≡ df ++ rest
   behind-both =
-      sym (drop-drop (dealingSize S) (setupSize S) (fileBytes C)) ∙ ap (drop (dealingSize S)) behind ∙ drop-at dl (df ++ rest) (dealingSize S) dl-size
+      let n = partLayout z .size S in
+      sym (drop-drop n (setupSize S) (fileBytes C)) ∙ ap (drop n) behind ∙ drop-at dl (df ++ rest) n dl-size
 
   some : 0 < S .n
   some = ok .setup .limits .holders .0
 
   -- the DF, or none
-  has : hasMap (df ++ rest) ≡ isMapped (C .kind)
-  has = go (C .kind) refl
+  has : hasMap z (df ++ rest) ≡ isMapped (C .kind)
+  has = go (C .kind)
     where
-      go : (k : Kind) → C .kind ≡ k → hasMap (mappedBytes x k ++ rest) ≡ isMapped k
-      go plain e =
-          has-mark rest (omega (arith, size h (C .values) (values2 (C .kind)) (C .verdicts), some))
+      go : (k : Kind) → hasMap (isZero k) (mappedBytes x k ++ rest) ≡ isMapped k
+      go plain =
+          has-mark false rest refl (omega (arith, size h (C .values) (values2 (C .kind)) (C .verdicts), some))
           ∙ ap (λ (w : ℕ). eqb w markDF) (starts h (C .values) (values2 (C .kind)) (C .verdicts) some)
-      go (mapped y) e =
+      go (mapped y) =
           let ws = mappedWords x (y .g) (y .h) (y .phi) in
-          has-mark (bytes ws ++ rest) (omega (arith, length-append (bytes ws) rest, length-bytes ws))
+          has-mark false (bytes ws ++ rest) refl (omega (arith, length-append (bytes ws) rest, length-bytes ws))
           ∙ ap (λ (w : ℕ). eqb w markDF) (word-of ws rest 0 (omega arith))
+      go contents.zero = has-no-place true rest refl
 
-  no-mapped-fault : mappedFault S x (df ++ rest) ≡ 0
+  no-mapped-fault : mappedFault S x z (df ++ rest) ≡ 0
   no-mapped-fault = go (C .kind) (ok .second) has
     where
-      go : (k : Kind) → OfKind S k → hasMap (mappedBytes x k ++ rest) ≡ isMapped k → mappedFault S x (mappedBytes x k ++ rest) ≡ 0
-      go plain o e = sym (map-none S x rest e)
+      go : (k : Kind) → OfKind S k → hasMap (isZero k) (mappedBytes x k ++ rest) ≡ isMapped k → mappedFault S x (isZero k) (mappedBytes x k ++ rest) ≡ 0
+      go plain o e = sym (map-none S x false rest e)
+      go contents.zero o e = sym (map-none S x true rest e)
       go (mapped y) o e =
           let t = bytes (mappedWords x (y .g) (y .h) (y .phi)) ++ rest in
           let c = clear (standingRules mappedLayout S t) tt
@@ -180,7 +215,7 @@ module _ (C : Contents) (ok : InOrder C) where
           )) in
           let lists = c .1 .1 .1 in
           let same = mapped-at x (y .g) (y .h) (y .phi) rest in
-          sym (map-own S x t e)
+          sym (map-own S x false t e)
           ∙ none-applies (mappedRules S x t) (
             c .0,
             (
@@ -204,9 +239,9 @@ module _ (C : Contents) (ok : InOrder C) where
             ),
           )
 
-  behind-all : drop (start S (isMapped (C .kind))) (fileBytes C) ≡ rest
+  behind-all : drop (start S z (isMapped (C .kind))) (fileBytes C) ≡ rest
   behind-all =
-      sym (drop-drop (pick (isMapped (C .kind)) (mappedSize S) 0) (firstByte S) (fileBytes C)) ∙ ap (drop (pick (isMapped (C .kind)) (mappedSize S) 0)) behind-both
+      sym (drop-drop (pick (isMapped (C .kind)) (mappedSize S) 0) (firstByte S z) (fileBytes C)) ∙ ap (drop (pick (isMapped (C .kind)) (mappedSize S) 0)) behind-both
       ∙ drop-at df rest (pick (isMapped (C .kind)) (mappedSize S) 0) df-size
 
   -- what is received by PF, where there is a DF
@@ -215,14 +250,16 @@ module _ (C : Contents) (ok : InOrder C) where
     where
       go : (k : Kind) → OfKind S k → isMapped k ≡ true → Vec (S .p) (S .n) (values2 k)
       go plain o e = absurd (false≢true e)
+      go contents.zero o e = absurd (false≢true e)
       go (mapped y) o e = o .received
 
-  kind-back : kindAt S (isMapped (C .kind)) (df ++ rest) (sentAt h (S .n) rest) ≡ C .kind
+  kind-back : kindAt S z (isMapped (C .kind)) (df ++ rest) (sentAt h (S .n) rest) ≡ C .kind
   kind-back = go (C .kind) (ok .second) (values2-back h (C .values) (values2 (C .kind)) (C .verdicts) (ok .received) in-second (ok .heard))
     where
       go : (k : Kind) → OfKind S k → (isMapped k ≡ true → sentAt h (S .n) rest ≡ values2 k)
-          → kindAt S (isMapped k) (mappedBytes x k ++ rest) (sentAt h (S .n) rest) ≡ k
+          → kindAt S (isZero k) (isMapped k) (mappedBytes x k ++ rest) (sentAt h (S .n) rest) ≡ k
       go plain o e = refl
+      go contents.zero o e = refl
       go (mapped y) o e =
           let i = o .row .size in
           let j = o .column .size in
@@ -243,24 +280,25 @@ module _ (C : Contents) (ok : InOrder C) where
       let v2 = values2 (C .kind) in
       let D : (values heard : List ℕ) → Kind → FileRead = λ values heard k. ofContents (contentsOf S x (C .g) (C .h) values heard k) (length s) in
       let R : (t u : List ℕ) → FileRead = λ t u.
-      orRefused (faultAt h t (reached h t)) (start S m + place h (reached h t)) (D (sentAt h 0 t) (verdictsAt h t) (kindAt S m u (sentAt h n t))) in
-      let g = ofReceived S x (C .g) (C .h) in
+      orRefused (faultAt h t (reached h t)) (start S z m + place h (reached h t)) (D (sentAt h 0 t) (verdictsAt h t) (kindAt S z m u (sentAt h n t))) in
+      let g = ofReceived S x (C .g) (C .h) z in
       sym (of-whole C (length s) (ok .own)
       ∙ ap (λ (v : List ℕ). D v (C .verdicts) (C .kind)) (sym (values-back h (C .values) v2 (C .verdicts) (ok .received) in-second (ok .heard)))
       ∙ ap (λ (v : List ℕ). D (sentAt h 0 rest) v (C .kind)) (sym (verdicts-back h (C .values) v2 (C .verdicts) (ok .received) in-second (ok .heard)))
       ∙ ap (λ (k : Kind). D (sentAt h 0 rest) (verdictsAt h rest) k) (sym kind-back)
-      ∙ goes-on (faultAt h rest (reached h rest)) (start S m + place h (reached h rest)) (D (sentAt h 0 rest) (verdictsAt h rest) (kindAt S m (df ++ rest) (sentAt h n rest)))
+      ∙ goes-on (faultAt h rest (reached h rest)) (start S z m + place h (reached h rest)) (D (sentAt h 0 rest) (verdictsAt h rest) (kindAt S z m (df ++ rest) (sentAt h n rest)))
       (not-refused h (C .values) v2 (C .verdicts) (ok .received) in-second (ok .heard))
       ∙ ap (λ (t : List ℕ). R t (df ++ rest)) (sym behind-all)
-      ∙ ap (λ (u : List ℕ). R (drop (start S m) s) u) (sym behind-both)
-      ∙ ap (λ (b : Bool). g b s) (sym (ap hasMap behind-both ∙ has))
+      ∙ ap (λ (u : List ℕ). R (drop (start S z m) s) u) (sym behind-both)
+      ∙ ap (λ (b : Bool). g b s) (sym (ap (hasMap z) behind-both ∙ has))
       ∙ file-next s no-setup-fault S (sym (setup-at S (dl ++ (df ++ rest)) (ok .setup .matrix .size))) no-dealing-fault
-      (sym (ap dealingAt behind ∙ dealing-at x (C .g) (C .h) (df ++ rest)))
-      (sym (ap (dealingG S) behind ∙ row-at S x (C .g) (C .h) (df ++ rest) (ok .row .size) (ok .column .size)))
-      (sym (ap (dealingH S) behind ∙ column-at S x (C .g) (C .h) (df ++ rest) (ok .row .size) (ok .column .size)))
-      (ap (mappedFault S x) behind-both ∙ no-mapped-fault))
+      (sym (ap dealingAt behind ∙ ap (λ (y : DealingParts). y .numbers) part-back))
+      (sym (ap (dealingG S) behind ∙ ap (λ (y : DealingParts). y .g) part-back))
+      (sym (ap hasZero behind ∙ zero-there))
+      (sym (ap (partsH (columns z S) S) behind ∙ ap (λ (y : DealingParts). y .h) part-back))
+      (ap (mappedFault S x z) behind-both ∙ no-mapped-fault))
 
-  -- and it is within the limit of a file: at most 1,034 bytes for SU, 70 for DL, 198 for DF, 640 for PV and PF, 256 for VD
+  -- and it is within the limit of a file: at most 1,034 bytes for SU, 70 for DL or DZ, 198 for DF, 640 for PV and PF, 256 for VD
   file-fits : length (fileBytes C) ≤ 4096
   file-fits =
       let L = ok .setup .limits in
@@ -271,6 +309,8 @@ module _ (C : Contents) (ok : InOrder C) where
         pairs-some h .1,
         matrix-small S L,
         dim-small S L,
+        part-size z S,
+        columns-le z S,
         L .holders .1,
         picked (λ k. k ≤ mappedSize S) (isMapped (C .kind)) (mappedSize S) 0 (omega arith) (omega arith),
         mul-le-mul {n₁ = S .l} {m₁ = S .l} {n₂ = 8} {m₂ = 8} (L .secret .1) (L .secret .1),
@@ -307,6 +347,7 @@ module _ (C : Contents) (ok : InOrder C) where
   -- of a DF and the PF
   map-bytes : (k : Kind) → OfKind S k → Bytes (mappedBytes x k) × Bytes (pick (isMapped k) (pairs markPF h (values2 k)) [])
   map-bytes plain o = (λ k. omega arith, λ k. omega arith)
+  map-bytes contents.zero o = (λ k. omega arith, λ k. omega arith)
   map-bytes (mapped y) o = (
     two-bytes (mappedWords x (y .g) (y .h) (y .phi)) (
       omega arith,
@@ -330,7 +371,10 @@ module _ (C : Contents) (ok : InOrder C) where
       below-append 256 su (dl ++ (df ++ rest))
       (two-bytes (setupWords S) (omega arith, (omega (arith, top), (omega (arith, L .secret .1), (omega (arith, L .random .1), (omega (arith, few), words (S .n * dim S) (S .M) (ok .setup .matrix)))))))
       (below-append 256 dl (df ++ rest)
-      (two-bytes (dealingWords x (C .g) (C .h)) (omega arith, (number, (small, words-append (C .g) (C .h) (words (dim S) (C .g) (ok .row)) (words (dim S) (C .h) (ok .column))))))
+      (two-bytes (allWords (partLayout z) part) (
+        picked (λ m. m < 65536) z markDZ markDL (omega arith) (omega arith),
+        (number, (small, words-append (C .g) (C .h) (words (dim S) (C .g) (ok .row)) (words (columns z S) (C .h) (ok .column)))),
+      ))
       (below-append 256 df rest (map .0)
       (below-append 256 (pairs markPV h (C .values)) (second ++ verdicts h (C .verdicts)) (pairs-bytes markPV (omega arith) (C .values) (ok .received))
       (below-append 256 second (verdicts h (C .verdicts)) (map .1) verdicts-bytes))))

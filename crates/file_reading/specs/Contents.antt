@@ -1,12 +1,15 @@
 -- What a holder's file holds, and what follows from it.
 -- Second: the second part that a DF brings: g, h, the map φ, and the n values received by PF, by sender
--- Kind: a dealing's file without a DF, or with one
+-- Kind: a dealing's file without a DF, or with one, or a zero dealing's file
 -- Contents: the setup with its matrix, the dealing number, the holder, its part g and h, the n values that it received and the n verdicts, by sender, and its kind
--- isMapped, values2, sharesOf: whether there is a second part, the values received by PF, and the shares that stand in its g
+-- isMapped, isZero: whether there is a second part, and whether it is a zero dealing's file
+-- values2, sharesOf: the values received by PF, and the shares that stand in the second part's g
 -- verdictOf: the verdict that says a judgement
 -- judgementBy, judgement, fate, keptShares, keptMapped: those of the contents; the shares of both parts where the dealing is kept, and none where it is aborted
 -- SecondInOrder, OfKind, InOrder: contents that break nothing
--- numbers, head: what its DL and DF say beside their lists, and what its PV, PF and VD say beside holder, value and verdict
+-- columns: how many entries h has
+-- partLayout: the layout of the record behind SU, DL's or DZ's
+-- numbers, head: what its DL or DZ and its DF say beside their lists, and what its PV, PF and VD say beside holder, value and verdict
 -- mappedBytes, fileBytes: its DF, or nothing, and the contents as a file
 use mathlib.Core.Path.{_≡_}
 use mathlib.Core.Bool.{Bool, true, false}
@@ -19,9 +22,9 @@ use Rattle.scheme.specs.declared.Judgement.{Judgement}
 use Rattle.scheme.specs.declared.Judgement.the-variants.{Accept, Reject, RejectMap}
 use Rattle.scheme.specs.declared.Fate.{Fate}
 use Rattle.scheme.specs.Setup.{Setup, dim, IsSetup}
-use Rattle.scheme.specs.Dealing.{judgementOf, judgementMapped, isKept, fateOf, shares}
+use Rattle.scheme.specs.Dealing.{judgementOf, judgementMapped, judgementZero, isKept, fateOf, shares}
 use Rattle.record_layouts.specs.Words.{bytes}
-use Rattle.record_layouts.specs.Records.{setupWords, dealingWords, mappedWords}
+use Rattle.record_layouts.specs.Records.{Layout, allWords, markDL, markDZ, setupWords, DealingParts, parts, partsLayoutOf, dealingSize, zeroSize, mappedWords}
 use Rattle.record_layouts.specs.declared.DealingRecord.{DealingRecord}
 use Rattle.file_records.specs.declared.Head.{Head}
 use Rattle.file_records.specs.Received.{received}
@@ -35,6 +38,7 @@ pub record Second : Type 0 where
 pub data Kind : Type 0 where
   plain : Kind
   mapped : Second → Kind
+  zero : Kind
 
 pub record Contents : Type 0 where
   pub setup : Setup
@@ -49,14 +53,22 @@ pub record Contents : Type 0 where
 abbrev pub isMapped : Kind → Bool
 isMapped plain = false
 isMapped (mapped y) = true
+isMapped zero = false
+
+abbrev pub isZero : Kind → Bool
+isZero plain = false
+isZero (mapped y) = false
+isZero zero = true
 
 abbrev pub values2 : Kind → List ℕ
 values2 plain = []
 values2 (mapped y) = y .values
+values2 zero = []
 
 abbrev pub sharesOf : Setup → Kind → List ℕ
 sharesOf S plain = []
 sharesOf S (mapped y) = shares S (y .g)
+sharesOf S zero = []
 
 -- "1 accept or 0 reject"
 abbrev pub verdictOf : Judgement → ℕ
@@ -67,6 +79,7 @@ verdictOf RejectMap = 0
 abbrev pub judgementBy : Setup → List ℕ → List ℕ → Kind → Judgement
 judgementBy S h values plain = judgementOf S h values
 judgementBy S h values (mapped y) = judgementMapped S h values (y .phi) (y .h) (y .values)
+judgementBy S h values zero = judgementZero S h values
 
 abbrev pub judgement : Contents → Judgement
 judgement C = judgementBy (C .setup) (C .h) (C .values) (C .kind)
@@ -89,6 +102,11 @@ pub record SecondInOrder (S : Setup) (y : Second) : Type 0 where
 abbrev pub OfKind : Setup → Kind → Type 0
 OfKind S plain = Unit {0}
 OfKind S (mapped y) = SecondInOrder S y
+OfKind S zero = Unit {0}
+
+-- "d entries each"; of a zero dealing "e entries of h"
+abbrev pub columns : Bool → Setup → ℕ
+columns z S = pick z (S .e) (dim S)
 
 -- "Dealing numbers are 1 to 65535"; the own verdict is that of the own judgement
 pub record InOrder (C : Contents) : Type 0 where
@@ -96,7 +114,7 @@ pub record InOrder (C : Contents) : Type 0 where
   pub dealing : (1 ≤ C .dealing) × (C .dealing ≤ 65535)
   pub holder : C .holder < C .setup .n
   pub row : Vec (C .setup .p) (dim (C .setup)) (C .g)
-  pub column : Vec (C .setup .p) (dim (C .setup)) (C .h)
+  pub column : Vec (C .setup .p) (columns (isZero (C .kind)) (C .setup)) (C .h)
   pub received : Vec (C .setup .p) (C .setup .n) (C .values)
   pub heard : Vec 2 (C .setup .n) (C .verdicts)
   pub second : OfKind (C .setup) (C .kind)
@@ -106,15 +124,21 @@ abbrev pub numbers : Contents → DealingRecord
 numbers C = record { dealing = C .dealing; holder = C .holder }
 
 abbrev pub head : Contents → Head
-head C = record { p = C .setup .p; n = C .setup .n; dealing = C .dealing; holder = C .holder; mapped = isMapped (C .kind) }
+head C =
+    record { p = C .setup .p; n = C .setup .n; dealing = C .dealing; holder = C .holder; mapped = isMapped (C .kind); zero = isZero (C .kind) }
 
 abbrev pub mappedBytes : DealingRecord → Kind → List ℕ
 mappedBytes x plain = []
 mappedBytes x (mapped y) = bytes (mappedWords x (y .g) (y .h) (y .phi))
+mappedBytes x zero = []
+
+-- "as a dealing's, with mark DZ (44 5A) for DL"
+abbrev pub partLayout : Bool → Layout DealingParts
+partLayout z = partsLayoutOf (pick z markDZ markDL) (λ S. pick z (zeroSize S) (dealingSize S)) (columns z)
 
 -- "A holder's file is SU, then that holder's DL"; "DF may come right after DL only"; "After DL the PV records now come by rising sender, then the VD records by rising
 -- holder"; "With a DF, n PF come by sender between PV and VD"
 abbrev pub fileBytes : Contents → List ℕ
 fileBytes C =
-    bytes (setupWords (C .setup)) ++ (bytes (dealingWords (numbers C) (C .g) (C .h))
+    bytes (setupWords (C .setup)) ++ (bytes (allWords (partLayout (isZero (C .kind))) (parts (numbers C) (C .g) (C .h)))
     ++ (mappedBytes (numbers C) (C .kind) ++ received (head C) (C .values) (values2 (C .kind)) (C .verdicts)))

@@ -6,6 +6,8 @@ ghost use Prim.Native.Nat.{_≤_};
 ghost use lib.ListN.{length};
 ghost use Rattle.base.specs.Rules.{refusal};
 ghost use Rattle.scheme.specs.Setup.{setupOf};
+ghost use Rattle.record_layouts.specs.Records.{standingRules};
+ghost use Rattle.file_reading.specs.Contents.{columns, partLayout};
 ghost use Rattle.file_reading.specs.File.{mappedRules, readFile};
 ghost use Rattle.file_reading.specs.Inner.{FrontIn, ReadsFront, ReadsMap, contentsRead, PartsIn, ReadsParts, JudgedIn, Tells};
 use file_records::Head;
@@ -18,7 +20,7 @@ use scheme::Outcome;
 use scheme::Params;
 
 // What a file tells that was read to its end: the shares stand at the start, and zeros behind them; none where the dealing was aborted. With a DF, the shares of the
-// second dealing beside them.
+// second dealing beside them; and whether it is a zero dealing's.
 pub struct Told {
     pub setup: Params,
     pub dealing: u16,
@@ -27,6 +29,7 @@ pub struct Told {
     pub shares: [u16; 8],
     pub mapped: bool,
     pub shares2: [u16; 8],
+    pub zero: bool,
 }
 
 // A refusal and its byte, or 0 and what the file tells.
@@ -36,12 +39,13 @@ pub struct Reading {
     pub told: Told,
 }
 
-// The numbers of SU and DL: a refusal and its byte, or 0 and the byte where DL ends.
+// The numbers of SU and DL or DZ: a refusal and its byte, or 0 and the byte where DL or DZ ends.
 pub struct Front {
     pub refusal: u16,
     pub byte: usize,
     pub setup: Params,
     pub record: DealingRecord,
+    pub zero: bool,
 }
 
 // Whether a DF comes behind them: a refusal and its byte, or 0 and the byte where the PV start.
@@ -58,12 +62,13 @@ pub struct Parts {
     pub setup: Params,
     pub record: DealingRecord,
     pub mapped: bool,
+    pub zero: bool,
     pub values: [u16; 32],
     pub values2: [u16; 32],
     pub verdicts: [u16; 32],
 }
 
-// The holder's own judgement, and the shares that stand in DL and DF.
+// The holder's own judgement, and the shares that stand in DL or DZ, and DF.
 pub struct Own {
     pub judgement: Judgement,
     pub shares: [u16; 8],
@@ -88,6 +93,7 @@ fn nothing() -> Told {
         shares: [0; 8],
         mapped: false,
         shares2: [0; 8],
+        zero: false,
     }
 }
 
@@ -108,10 +114,29 @@ fn unread() -> Front
             dealing: 0,
             holder: 0,
         },
+        zero: false,
     }
 }
 
-// SU and DL, from the file's start.
+// How many entries h has.
+fn column_len(s: Params, zero: bool) -> usize
+    ensures { λ r. ⌜ (r ≡ columns zero (setupOf s [])) × (r ≤ 131070) ⌝ }
+{
+    let e = s.e as usize;
+    if zero { e } else { (s.l as usize) + e }
+}
+
+// What is faulty in a DL, or in a DZ.
+fn part_fault(s: Params, t: &[u8], zero: bool) -> u16
+    ensures { λ r. ⌜ r ≡ refusal (standingRules (partLayout zero) (setupOf s []) (now (t .entry))) ⌝ }
+{
+    if zero {
+        return record_layouts::zero_fault(s, t);
+    }
+    record_layouts::dealing_fault(s, t)
+}
+
+// SU and DL or DZ, from the file's start.
 fn read_front(file: &[u8]) -> Front
     ensures { λ r. ⌜ ReadsFront (now (file .entry)) r ⌝ }
 {
@@ -144,11 +169,13 @@ fn read_front(file: &[u8]) -> Front
     if mark == record_layouts::MARK_SU {
         return front;
     }
-    front.refusal = record_layouts::dealing_fault(s, t);
+    let zero = mark == record_layouts::MARK_DZ;
+    front.zero = zero;
+    front.refusal = part_fault(s, t, zero);
     if front.refusal != 0 {
         return front;
     }
-    front.byte = at + DEALING_HEAD + 4 * d;
+    front.byte = at + DEALING_HEAD + 2 * (d + column_len(s, zero));
     front
 }
 
@@ -162,7 +189,7 @@ fn second_fault(s: Params, x: DealingRecord, t: &[u8]) -> u16
     base::or_when(b, 9, y.dealing != x.dealing)
 }
 
-// A DF behind SU and DL, if there is one.
+// A DF behind SU and DL, if there is one; behind a DZ it has no place.
 fn read_second(file: &[u8], front: Front) -> SecondFront
     requires { ⌜ FrontIn (now file) front ⌝ }
     ensures { λ r. ⌜ ReadsMap (now (file .entry)) r ⌝ }
@@ -176,6 +203,9 @@ fn read_second(file: &[u8], front: Front) -> SecondFront
         byte: at,
         mapped: false,
     };
+    if front.zero {
+        return second;
+    }
     if t.len() < 2 {
         return second;
     }
@@ -206,6 +236,7 @@ fn read_parts(file: &[u8]) -> Parts
         setup: s,
         record: x,
         mapped: false,
+        zero: front.zero,
         values: [0; 32],
         values2: [0; 32],
         verdicts: [0; 32],
@@ -227,6 +258,7 @@ fn read_parts(file: &[u8]) -> Parts
         dealing: x.dealing,
         holder: x.holder,
         mapped: second.mapped,
+        zero: front.zero,
     };
     let sent = file_records::read_received(&file[from..], head);
     let values = sent.values;
@@ -242,7 +274,7 @@ fn read_parts(file: &[u8]) -> Parts
 
 // The own judgement where there is no DF.
 fn judge_plain(file: &[u8], parts: Parts) -> Own
-    requires { ⌜ PartsIn (now file) parts × (parts .mapped ≡ false) ⌝ }
+    requires { ⌜ PartsIn (now file) parts × (parts .mapped ≡ false) × (parts .zero ≡ false) ⌝ }
     ensures { λ r. ⌜ JudgedIn (contentsRead (now (file .entry)) parts) r ⌝ }
 {
     let s = parts.setup;
@@ -251,7 +283,7 @@ fn judge_plain(file: &[u8], parts: Parts) -> Own
     let len = n * d;
     let at = SETUP_HEAD + 2 * len;
     let matrix = file_records::read_matrix(s, file);
-    let lists = file_records::read_part(s, &file[at..]);
+    let lists = file_records::read_part(s, &file[at..], d);
     let h = lists.h;
     let values = parts.values;
     let judgement = judging::judgement(s, &matrix[..len], &h[..d], &values[..n]);
@@ -276,8 +308,8 @@ fn judge_mapped(file: &[u8], parts: Parts) -> Own
     let behind = at + DEALING_HEAD + 4 * d;
     let square = (s.l as usize) * (s.l as usize);
     let matrix = file_records::read_matrix(s, file);
-    let lists = file_records::read_part(s, &file[at..]);
-    let second = file_records::read_part(s, &file[behind..]);
+    let lists = file_records::read_part(s, &file[at..], d);
+    let second = file_records::read_part(s, &file[behind..], d);
     let phi = file_records::read_map(s, &file[behind..]);
     let h = lists.h;
     let h2 = second.h;
@@ -301,11 +333,39 @@ fn judge_mapped(file: &[u8], parts: Parts) -> Own
     }
 }
 
+// The own judgement of a zero dealing.
+fn judge_zero(file: &[u8], parts: Parts) -> Own
+    requires { ⌜ PartsIn (now file) parts × (parts .zero ≡ true) ⌝ }
+    ensures { λ r. ⌜ JudgedIn (contentsRead (now (file .entry)) parts) r ⌝ }
+{
+    let s = parts.setup;
+    let n = s.n as usize;
+    let e = s.e as usize;
+    let d = (s.l as usize) + e;
+    let len = n * d;
+    let at = SETUP_HEAD + 2 * len;
+    let matrix = file_records::read_matrix(s, file);
+    let lists = file_records::read_part(s, &file[at..], e);
+    let h = lists.h;
+    let values = parts.values;
+    let judgement = zero_dealing::judgement_zero(s, &matrix[..len], &h[..e], &values[..n]);
+    let shares = lists.shares;
+    Own {
+        judgement,
+        shares,
+        shares2: [0; 8],
+    }
+}
+
 fn judge_parts(file: &[u8], parts: Parts) -> Own
     requires { ⌜ PartsIn (now file) parts ⌝ }
     ensures { λ r. ⌜ JudgedIn (contentsRead (now (file .entry)) parts) r ⌝ }
 {
+    let zero = parts.zero;
     let mapped = parts.mapped;
+    if zero {
+        return judge_zero(file, parts);
+    }
     if mapped {
         return judge_mapped(file, parts);
     }
@@ -363,6 +423,7 @@ pub fn read_file(file: &[u8]) -> Reading
         shares,
         mapped: parts.mapped,
         shares2,
+        zero: parts.zero,
     };
     Reading {
         refusal: 0,

@@ -18,7 +18,7 @@ use Rattle.base.proofs.Search.{first-is, first-le}
 use Rattle.base.proofs.Fill.{length-filled, getD-filled, tab-is, tab-ext, tab-vec}
 use Rattle.record_layouts.specs.Words.{wordAt, wordsAt}
 use Rattle.record_layouts.proofs.Words.{length-words, word-behind}
-use Rattle.record_layouts.specs.Records.{markPV, markVD, markSU, markDL, markDF, markPF, pairSize, verdictSize, pairAt, verdictAt}
+use Rattle.record_layouts.specs.Records.{markPV, markVD, markSU, markDL, markDF, markPF, markDZ, pairSize, verdictSize, pairAt, verdictAt}
 use Rattle.file_records.specs.declared.Head.{Head}
 use Rattle.file_records.specs.Received.{pairRecords, records, place, pairRules, pairFault, verdictRules, verdictFault, markFault, recordFault, faultAt, reached, sentAt, verdictsAt}
 
@@ -115,10 +115,13 @@ verdict-is h k u m e =
 mark-by : (P : ℕ → Type 0) (h : Head) (m : ℕ) → P 8 → P 10 → P (markFault h m)
 unfolding markFault
 mark-by P h m eight ten =
+    let dl : ℕ = pick (h .zero) 8 10 in
+    let dz : ℕ = pick (h .zero) 10 8 in
     let df : ℕ = pick (h .mapped) 10 8 in
-    picked P (eqb m markSU) 10 (pick (eqb m markDL) 10 (pick (eqb m markDF) df 8)) ten
-    (picked P (eqb m markDL) 10 (pick (eqb m markDF) df 8) ten
-    (picked P (eqb m markDF) df 8 (picked P (h .mapped) 10 8 ten eight) eight))
+    picked P (eqb m markSU) 10 (pick (eqb m markDL) dl (pick (eqb m markDZ) dz (pick (eqb m markDF) df 8))) ten
+    (picked P (eqb m markDL) dl (pick (eqb m markDZ) dz (pick (eqb m markDF) df 8)) (picked P (h .zero) 8 10 eight ten)
+    (picked P (eqb m markDZ) dz (pick (eqb m markDF) df 8) (picked P (h .zero) 10 8 ten eight)
+    (picked P (eqb m markDF) df 8 (picked P (h .mapped) 10 8 ten eight) eight)))
 
 pub record-by : (P : ℕ → Type 0) (h : Head) (k : ℕ) (u : List ℕ) → P 3 → P 8 → P 10 → ((first : ℕ) → P (pairFault h k first (length u) (pairAt u)))
     → P (verdictFault h k (length u) (verdictAt u)) → P (recordFault h k u)

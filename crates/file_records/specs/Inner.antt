@@ -1,7 +1,7 @@
 -- Contracts of inner functions.
 -- Sends: what is given of the PV, PF and VD
 -- Small: a setup whose lists have room
--- HoldsPart: what is given of the lists of a DL or DF
+-- HoldsPart: what is given of the lists of a DL, DZ or DF whose h has k entries
 use mathlib.Core.Path.{_≡_}
 use mathlib.Core.Bool.{true}
 use mathlib.Core.List.{List, _++_}
@@ -9,7 +9,7 @@ use Prim.Native.Nat.{ℕ, _+_, _*_, _≤_}
 use lib.ListN.{length, take, drop, replicate}
 use Rattle.scheme.specs.Setup.{Setup, dim}
 use Rattle.record_layouts.specs.Words.{wordsAt}
-use Rattle.record_layouts.specs.Records.{dealingH}
+use Rattle.record_layouts.specs.Records.{partsH}
 use Rattle.file_records.specs.declared.Head.{Head}
 use Rattle.file_records.specs.declared.Sent.{Sent}
 use Rattle.file_records.specs.declared.PartLists.{PartLists}
@@ -33,7 +33,7 @@ pub record Small (S : Setup) : Type 0 where
   pub map : S .l * S .l ≤ 64
 
 -- the first ℓ entries of g, and h, of the record at the start of t
-pub record HoldsPart (S : Setup) (t : List ℕ) (r : PartLists) : Type 0 where
+pub record HoldsPart (S : Setup) (k : ℕ) (t : List ℕ) (r : PartLists) : Type 0 where
   pub shares : r .shares ≡ wordsAt t 3 (S .l) ++ drop (S .l) (replicate 8 0)
   pub h-size : length (r .h) ≡ 16
-  pub h : take (dim S) (r .h) ≡ dealingH S t
+  pub h : take k (r .h) ≡ partsH k S t

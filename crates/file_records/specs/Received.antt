@@ -1,7 +1,8 @@
 -- The PV, PF and VD of a holder's file (document 02, A2: "After DL the PV records now come by rising sender, then the VD records by rising holder"; A7: "With a DF, n PF
--- come by sender between PV and VD, under the refusals of PV and 17; without one, a PF gets 8"). They are numbered: the PV from holder j is record j, with a DF the PF
--- from holder j is record n + j, and the VD of holder j comes j behind all of them. t is the file from the byte on where they start, u a part of it where record k is due.
--- Head: what stands before them decides: p, n, the file's dealing number and holder, and whether it has a DF
+-- come by sender between PV and VD, under the refusals of PV and 17; without one, a PF gets 8"; A8: a zero dealing's file "is as a dealing's"). They are numbered: the PV
+-- from holder j is record j, with a DF the PF from holder j is record n + j, and the VD of holder j comes j behind all of them. t is the file from the byte on where they
+-- start, u a part of it where record k is due.
+-- Head: what stands before them decides: p, n, the file's dealing number and holder, whether it has a DF, and whether it is a zero dealing's
 -- pairRecords, records: how many PV and PF there are, and how many records
 -- place: the byte of t where record k starts
 -- pairFault, verdictFault: what is faulty in a PV or PF, of which that from holder 0 is record `first`, or in a VD; x are its fields, of which len bytes are there
@@ -25,7 +26,7 @@ use Rattle.base.specs.Search.{first}
 use Rattle.base.specs.Fill.{tab}
 use Rattle.field.specs.Dot.{at}
 use Rattle.record_layouts.specs.Words.{bytes, wordAt}
-use Rattle.record_layouts.specs.Records.{markSU, markDL, markPV, markVD, markDF, markPF, pairSize, verdictSize, allWords, pairLayoutOf, verdictWords, pairAt, verdictAt}
+use Rattle.record_layouts.specs.Records.{markSU, markDL, markPV, markVD, markDF, markPF, markDZ, pairSize, verdictSize, allWords, pairLayoutOf, verdictWords, pairAt, verdictAt}
 use Rattle.record_layouts.specs.declared.PairRecord.{PairRecord}
 use Rattle.record_layouts.specs.declared.VerdictRecord.{VerdictRecord}
 use Rattle.file_records.specs.declared.Head.{Head}
@@ -61,9 +62,11 @@ unfoldable pub verdictFault : Head → (k len : ℕ) → VerdictRecord → ℕ
 verdictFault h k len x = refusal (verdictRules h k len x)
 
 -- "8: unknown mark, or one with no place there"; "10: a second SU or DL, by its mark alone and instead of 8"; "DF may come right after DL only"; "A second DF gets 10
--- like a second DL"
+-- like a second DL"; of a zero dealing's file: "DF has no place in it. There a DL gets 8 and a second DZ 10; a DZ after DL gets 8"
 unfoldable pub markFault : Head → ℕ → ℕ
-markFault h m = pick (eqb m markSU) 10 (pick (eqb m markDL) 10 (pick (eqb m markDF) (pick (h .mapped) 10 8) 8))
+markFault h m =
+    pick (eqb m markSU) 10
+    (pick (eqb m markDL) (pick (h .zero) 8 10) (pick (eqb m markDZ) (pick (h .zero) 10 8) (pick (eqb m markDF) (pick (h .mapped) 10 8) 8)))
 
 -- "A single last byte is a record cut short, 3"; "without one, a PF gets 8"
 unfoldable pub recordFault : Head → ℕ → List ℕ → ℕ

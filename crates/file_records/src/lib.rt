@@ -1,5 +1,5 @@
-// The records of a holder's file behind its SU, DL and DF: its PV by rising sender, with a DF its PF by rising sender, then its VD by rising holder, read to the
-// file's end or to the first that is faulty or missing; and the lists that stand in its SU, DL and DF.
+// The records of a holder's file behind its SU, DL or DZ, and DF: its PV by rising sender, with a DF its PF by rising sender, then its VD by rising holder, read to the
+// file's end or to the first that is faulty or missing; and the lists that stand in its SU, DL or DZ, and DF.
 ghost use mathlib.Core.Path.{_≡_};
 ghost use mathlib.Core.List.{[]};
 ghost use Prim.Native.Nat.{_+_, _*_, _≤_};
@@ -7,20 +7,21 @@ ghost use lib.ListN.{length, take};
 ghost use Rattle.base.specs.Fill.{tab};
 ghost use Rattle.scheme.specs.Setup.{setupOf};
 ghost use Rattle.record_layouts.specs.Words.{wordAt, wordsAt};
-ghost use Rattle.record_layouts.specs.Records.{setupSize, dealingSize, mappedSize, mappedPhi};
+ghost use Rattle.record_layouts.specs.Records.{setupSize, mappedSize, mappedPhi};
 ghost use Rattle.file_records.specs.Received.{pairRecords, place, pairFault, verdictFault, markFault, recordFault, faultAt, reached};
 ghost use Rattle.file_records.specs.Inner.{Sends, Small, HoldsPart};
 use record_layouts::PairRecord;
 use record_layouts::VerdictRecord;
 use scheme::Params;
 
-// What stands before the records decides: p, n, the file's dealing number and holder, and whether it has a DF.
+// What stands before the records decides: p, n, the file's dealing number and holder, whether it has a DF, and whether it is a zero dealing's.
 pub struct Head {
     pub p: u16,
     pub n: u16,
     pub dealing: u16,
     pub holder: u16,
     pub mapped: bool,
+    pub zero: bool,
 }
 
 // The refusal or 0, and the byte where the faulty record starts or a missing one would; and what the n holders sent, by sender: by PV, by PF and by VD.
@@ -32,7 +33,7 @@ pub struct Sent {
     pub verdicts: [u16; 32],
 }
 
-// The lists of a DL or DF.
+// The lists of a DL, DZ or DF.
 pub struct PartLists {
     pub shares: [u16; 8],
     pub h: [u16; 16],
@@ -118,11 +119,15 @@ fn mark_fault(h: Head, m: u16) -> u16
     ensures { λ r. ⌜ r ≡ markFault h m ⌝ }
 {
     let mapped = h.mapped;
+    let zero = h.zero;
     if m == record_layouts::MARK_SU {
         return 10;
     }
     if m == record_layouts::MARK_DL {
-        return 10;
+        return if zero { 8 } else { 10 };
+    }
+    if m == record_layouts::MARK_DZ {
+        return if zero { 10 } else { 8 };
     }
     if m == record_layouts::MARK_DF {
         return if mapped { 10 } else { 8 };
@@ -233,17 +238,17 @@ pub fn read_matrix(s: Params, file: &[u8]) -> [u16; 512]
     matrix
 }
 
-// The shares and h of a DL or DF that stands at the start of a part of a file.
-pub fn read_part(s: Params, part: &[u8]) -> PartLists
-    requires { ⌜ Small (setupOf s []) × (dealingSize (setupOf s []) ≤ length (now part)) ⌝ }
-    ensures { λ r. ⌜ HoldsPart (setupOf s []) (now (part .entry)) r ⌝ }
+// The shares and h of a DL, DZ or DF that stands at the start of a part of a file and whose h has k entries.
+pub fn read_part(s: Params, part: &[u8], k: usize) -> PartLists
+    requires { ⌜ Small (setupOf s []) × (k ≤ 16) × (6 + 2 * (s .l + s .e + k) ≤ length (now part)) ⌝ }
+    ensures { λ r. ⌜ HoldsPart (setupOf s []) k (now (part .entry)) r ⌝ }
 {
     let l = s.l as usize;
     let d = l + (s.e as usize);
     let mut shares = [0u16; 8];
     record_layouts::get_words(part, 3, &mut shares[..l]);
     let mut h = [0u16; 16];
-    record_layouts::get_words(part, 3 + d, &mut h[..d]);
+    record_layouts::get_words(part, 3 + d, &mut h[..k]);
     PartLists { shares, h }
 }
 

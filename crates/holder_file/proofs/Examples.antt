@@ -1,5 +1,5 @@
--- What is printed: the text of every contents in order; and document 01's file of 90 bytes with its three variants ("The holder program on paper") and the same file with a
--- DF, computed from the definitions, one line here for each line there.
+-- What is printed: the text of every contents in order; and document 01's file of 90 bytes with its three variants ("The holder program on paper"), the same file with a
+-- DF and a zero dealing's file, computed from the definitions, one line here for each line there; and what the last three give as numbers.
 -- prints, call-prints, call-leaves: the file of contents in order prints their text
 use mathlib.Core.Path.{_≡_, refl, ap}
 use mathlib.Core.Bool.{not}
@@ -12,14 +12,16 @@ use Rattle.base.proofs.Rules.{none-applies}
 use Rattle.base.specs.Sum.{sum}
 use Rattle.base.specs.Search.{every, first, firstFrom}
 use Rattle.field.specs.Dot.{dot}
-use Rattle.scheme.specs.Dealing.{expected, differs, saidReject, isKept, judgementOf, imageAt, differsIn, mapHolds, judgementMapped, fateOf}
+use Rattle.scheme.specs.Dealing.{expected, differs, saidReject, isKept, judgementOf, imageAt, differsIn, mapHolds, judgementMapped, expectedZero, differsZero, judgementZero, fateOf}
 use Rattle.file_text.specs.Lines.{width, dec, setupLine, dealingLine, verdictLine, outcomeLine, columnLine, columnLines, keptLines, refusedLine}
 use Rattle.file_reading.specs.Contents.{Contents, InOrder, fileBytes}
 use Rattle.file_reading.proofs.Sound.{reads-back}
 use Rattle.file_reading.proofs.Examples.{worked, last-gone, rejected, contradicted, worked-read, last-gone-read, rejected-read, contradicted-read}
-use Rattle.file_reading.proofs.Examples.{tied, untied, tied-read, untied-read}
+use Rattle.file_reading.proofs.Examples.{tied, untied, tied-read, untied-read, workedContents, tiedContents}
+use Rattle.file_reading.proofs.Examples.{zeros, wrong, zeroContents, zero-read, wrong-read}
 use Rattle.holder_file.specs.Text.{textOf, lineOf, fileText}
-use Rattle.holder_file.specs.Calls.{lentFile, holderFileCall, holderFileLeft}
+use Rattle.file_reading.specs.File.{told}
+use Rattle.holder_file.specs.Calls.{lentFile, holderFileCall, holderFileLeft, numbers}
 
 pub prints : (C : Contents) → InOrder C → fileText (fileBytes C) ≡ textOf C
 prints C ok = ap lineOf (reads-back C ok .back)
@@ -90,3 +92,32 @@ pub untied-text : fileText untied
     ∷ 111 ∷ 117 ∷ 116 ∷ 99 ∷ 111 ∷ 109 ∷ 101 ∷ 32 ∷ 97 ∷ 98 ∷ 111 ∷ 114 ∷ 116 ∷ 101 ∷ 100 ∷ 32 ∷ 49 ∷ 10 ∷ []
 unfolding textOf sum every first firstFrom dot expected differs saidReject isKept judgementOf imageAt differsIn mapHolds judgementMapped fateOf width dec setupLine dealingLine verdictLine outcomeLine columnLine columnLines keptLines
 untied-text = ap lineOf untied-read
+
+-- a zero dealing's: "as a dealing's", with the share 2 and no `mapped` line
+pub zero-text : fileText zeros
+    ≡ 115 ∷ 101 ∷ 116 ∷ 117 ∷ 112 ∷ 32 ∷ 55 ∷ 32 ∷ 49 ∷ 32 ∷ 49 ∷ 32 ∷ 51 ∷ 10
+    ∷ 100 ∷ 101 ∷ 97 ∷ 108 ∷ 105 ∷ 110 ∷ 103 ∷ 32 ∷ 49 ∷ 32 ∷ 104 ∷ 111 ∷ 108 ∷ 100 ∷ 101 ∷ 114 ∷ 32 ∷ 49 ∷ 10
+    ∷ 118 ∷ 101 ∷ 114 ∷ 100 ∷ 105 ∷ 99 ∷ 116 ∷ 32 ∷ 97 ∷ 99 ∷ 99 ∷ 101 ∷ 112 ∷ 116 ∷ 10
+    ∷ 111 ∷ 117 ∷ 116 ∷ 99 ∷ 111 ∷ 109 ∷ 101 ∷ 32 ∷ 107 ∷ 101 ∷ 112 ∷ 116 ∷ 10
+    ∷ 115 ∷ 104 ∷ 97 ∷ 114 ∷ 101 ∷ 32 ∷ 48 ∷ 32 ∷ 50 ∷ 10 ∷ []
+unfolding textOf sum first firstFrom dot expectedZero differsZero saidReject isKept judgementZero fateOf width dec setupLine dealingLine verdictLine outcomeLine columnLine columnLines keptLines
+zero-text = ap lineOf zero-read
+
+-- the PV from 0 made 5 and the own verdict 0: "verdict reject 0", "outcome aborted 1"
+pub wrong-text : fileText wrong
+    ≡ 115 ∷ 101 ∷ 116 ∷ 117 ∷ 112 ∷ 32 ∷ 55 ∷ 32 ∷ 49 ∷ 32 ∷ 49 ∷ 32 ∷ 51 ∷ 10
+    ∷ 100 ∷ 101 ∷ 97 ∷ 108 ∷ 105 ∷ 110 ∷ 103 ∷ 32 ∷ 49 ∷ 32 ∷ 104 ∷ 111 ∷ 108 ∷ 100 ∷ 101 ∷ 114 ∷ 32 ∷ 49 ∷ 10
+    ∷ 118 ∷ 101 ∷ 114 ∷ 100 ∷ 105 ∷ 99 ∷ 116 ∷ 32 ∷ 114 ∷ 101 ∷ 106 ∷ 101 ∷ 99 ∷ 116 ∷ 32 ∷ 48 ∷ 10
+    ∷ 111 ∷ 117 ∷ 116 ∷ 99 ∷ 111 ∷ 109 ∷ 101 ∷ 32 ∷ 97 ∷ 98 ∷ 111 ∷ 114 ∷ 116 ∷ 101 ∷ 100 ∷ 32 ∷ 49 ∷ 10 ∷ []
+unfolding textOf sum first firstFrom dot expectedZero differsZero saidReject isKept judgementZero fateOf width dec setupLine dealingLine verdictLine outcomeLine columnLine columnLines keptLines
+wrong-text = ap lineOf wrong-read
+
+-- AS NUMBERS: the kinds 0, 1 and 2 at place 18, between the eight shares of the dealing and those of the second
+pub record AsNumbers : Type 0 where
+  dealing : numbers (told workedContents) ≡ 7 ∷ 1 ∷ 1 ∷ 3 ∷ 1 ∷ 1 ∷ 1 ∷ 0 ∷ 1 ∷ 0 ∷ 2 ∷ 0 ∷ 0 ∷ 0 ∷ 0 ∷ 0 ∷ 0 ∷ 0 ∷ 0 ∷ 0 ∷ 0 ∷ 0 ∷ 0 ∷ 0 ∷ 0 ∷ 0 ∷ 0 ∷ []
+  mapped : numbers (told tiedContents) ≡ 7 ∷ 1 ∷ 1 ∷ 3 ∷ 1 ∷ 1 ∷ 1 ∷ 0 ∷ 1 ∷ 0 ∷ 2 ∷ 0 ∷ 0 ∷ 0 ∷ 0 ∷ 0 ∷ 0 ∷ 0 ∷ 1 ∷ 0 ∷ 0 ∷ 0 ∷ 0 ∷ 0 ∷ 0 ∷ 0 ∷ 0 ∷ []
+  zero-dealing : numbers (told zeroContents) ≡ 7 ∷ 1 ∷ 1 ∷ 3 ∷ 1 ∷ 1 ∷ 1 ∷ 0 ∷ 1 ∷ 0 ∷ 2 ∷ 0 ∷ 0 ∷ 0 ∷ 0 ∷ 0 ∷ 0 ∷ 0 ∷ 2 ∷ 0 ∷ 0 ∷ 0 ∷ 0 ∷ 0 ∷ 0 ∷ 0 ∷ 0 ∷ []
+
+pub as-numbers : AsNumbers
+unfolding sum every first firstFrom dot expected differs saidReject isKept judgementOf imageAt differsIn mapHolds judgementMapped expectedZero differsZero judgementZero fateOf
+as-numbers = record { dealing = refl; mapped = refl; zero-dealing = refl }

@@ -27,7 +27,7 @@ use Rattle.file_reading.specs.File.{FileRead, refusedAt, whole, readFile, numbe
 use Rattle.file_reading.specs.Inner.{Tells}
 use Rattle.file_reading.proofs.Whole.{HasContents, file-some, file-inside, whole-is-setup, whole-row, whole-mapped}
 use Rattle.holder_file.specs.Text.{textOf, lineOf}
-use Rattle.holder_file.specs.Calls.{atByte, fileAnswer, fileLeft, lentFile, judged, settled, numbers}
+use Rattle.holder_file.specs.Calls.{atByte, fileAnswer, fileLeft, lentFile, judged, settled, kindNumber, numbers}
 
 -- WHAT A FILE TELLS IS PRINTED AS ITS TEXT
 eight-long : (xs : List ℕ) → length xs ≤ 8 → length (eight xs) ≡ 8
@@ -197,7 +197,7 @@ eight-entries (a ∷ b ∷ c ∷ d ∷ e ∷ f ∷ g ∷ []) l = absurd (omega a
 eight-entries (a ∷ b ∷ c ∷ d ∷ e ∷ f ∷ g ∷ h ∷ i ∷ x) l = absurd (omega arith)
 
 pub numbers-told : (t : Told) (a b c d m : ℕ) → length (t .shares) ≡ 8 → length (t .shares2) ≡ 8 → judged (t .outcome .judgement) ≡ a ∷ b ∷ []
-    → settled (t .outcome .fate) ≡ c ∷ d ∷ [] → m ≡ pick (t .mapped) 1 0
+    → settled (t .outcome .fate) ≡ c ∷ d ∷ [] → m ≡ kindNumber (t .mapped) (t .zero)
     → let x = t .shares in
     let y = t .shares2 in
     t .setup .p ∷ t .setup .l ∷ t .setup .e ∷ t .setup .n ∷ t .dealing ∷ t .holder ∷ a ∷ b ∷ c ∷ d

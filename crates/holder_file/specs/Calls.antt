@@ -4,10 +4,10 @@
 -- fileAnswer, fileLeft: the answer and a lent buffer by what is read
 -- holderFileRules, holderFileCall, holderFileLeft: the text into a lent buffer of 512 bytes; it stands at its start, and what is behind it stays
 -- judged, settled: the verdict and the outcome as two numbers each, 1 and 0, or 0 and the holder named; `reject map` as 0 and 65535, which is no holder
--- numbers: what a file tells, as 27 numbers: p, ℓ, e, n, dealing number, holder, verdict, outcome, eight shares, 1 or 0 for a DF or none, eight shares of the second
--- dealing
+-- kindNumber: 2 for a zero dealing's file, 1 for one with a DF, 0 for one without
+-- numbers: what a file tells, as 27 numbers: p, ℓ, e, n, dealing number, holder, verdict, outcome, eight shares, its kind, eight shares of the second dealing
 -- fileContentsRules, fileContentsCall, fileContentsLeft: those numbers into a lent buffer
-use mathlib.Core.Bool.{false, not}
+use mathlib.Core.Bool.{Bool, false, not}
 use mathlib.Core.List.{List, [], _∷_, _++_}
 use Prim.Native.Nat.{ℕ}
 use lib.Dec.{eqb, ltb}
@@ -64,10 +64,13 @@ abbrev pub settled : Fate → List ℕ
 settled Kept = 1 ∷ 0 ∷ []
 settled (Aborted i) = 0 ∷ i ∷ []
 
+abbrev pub kindNumber : (mapped zero : Bool) → ℕ
+kindNumber mapped zero = pick zero 2 (pick mapped 1 0)
+
 abbrev pub numbers : Told → List ℕ
 numbers t =
     t .setup .p ∷ t .setup .l ∷ t .setup .e ∷ t .setup .n ∷ t .dealing ∷ t .holder
-    ∷ judged (t .outcome .judgement) ++ (settled (t .outcome .fate) ++ (t .shares ++ (pick (t .mapped) 1 0 ∷ t .shares2)))
+    ∷ judged (t .outcome .judgement) ++ (settled (t .outcome .fate) ++ (t .shares ++ (kindNumber (t .mapped) (t .zero) ∷ t .shares2)))
 
 abbrev pub fileContentsCall : List ℕ → List ℕ → Answer
 fileContentsCall s out = answerBy (refusal (lentFile s out 27)) (fileAnswer (λ C. []) (readFile s))

@@ -1,5 +1,5 @@
 -- What is printed of a holder's file (document 01, "The holder program on paper"; document 02, A7: "Kept shares of the second print last, as `mapped` with column and
--- value").
+-- value"; A8: a zero dealing's file "is as a dealing's").
 -- textOf: the text of its contents
 -- lineOf: the same, or the line of a refusal; fileText: of the file
 use mathlib.Core.List.{List}

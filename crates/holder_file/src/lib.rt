@@ -7,7 +7,7 @@ ghost use Rattle.base.specs.Rules.{refusal};
 ghost use Rattle.file_text.specs.Text.{Printed};
 ghost use Rattle.holder_file.specs.Text.{fileText};
 ghost use Rattle.base.specs.Choice.{pick};
-ghost use Rattle.holder_file.specs.Calls.{lentFile, holderFileCall, holderFileLeft, paperPrinting, judged, settled, numbers, fileContentsCall, fileContentsLeft, paperGiven};
+ghost use Rattle.holder_file.specs.Calls.{lentFile, holderFileCall, holderFileLeft, paperPrinting, judged, settled, kindNumber, numbers, fileContentsCall, fileContentsLeft, paperGiven};
 use file_reading::Told;
 use scheme::Fate;
 use scheme::Judgement;
@@ -118,9 +118,13 @@ fn outcome_said(fate: Fate) -> Said
     }
 }
 
-fn mapped_said(mapped: bool) -> u16
-    ensures { λ r. ⌜ r ≡ pick mapped 1 0 ⌝ }
+// 2 for a zero dealing's file, 1 for one with a DF, 0 for one without.
+fn kind_said(mapped: bool, zero: bool) -> u16
+    ensures { λ r. ⌜ r ≡ kindNumber mapped zero ⌝ }
 {
+    if zero {
+        return 2;
+    }
     if mapped { 1 } else { 0 }
 }
 
@@ -136,7 +140,7 @@ fn tell_numbers(t: Told) -> [u16; 27]
     let x = t.shares;
     let a = verdict_said(judgement);
     let b = outcome_said(fate);
-    let m = mapped_said(t.mapped);
+    let m = kind_said(t.mapped, t.zero);
     let y = t.shares2;
     [
         s.p,

@@ -14,6 +14,7 @@ use Rattle.base.specs.Search.{Vec}
 use Rattle.base.specs.Fill.{tab}
 use Rattle.base.specs.Matrix.{entry, flat, allBelow}
 use Rattle.base.proofs.Rules.{not-refused}
+use Rattle.base.proofs.Search.{every-all}
 use Rattle.base.proofs.Fill.{length-tab, getD-tab, tab-ext, flat-at}
 use Rattle.base.proofs.Matrix.{below-is}
 use Rattle.field.specs.Dot.{at, dot}
@@ -22,10 +23,11 @@ use Rattle.scheme.specs.Dealing.{dealtEntry, dealt, partG}
 use Rattle.scheme.specs.Sets.{holds, members}
 use Rattle.scheme.specs.Calls.{dealAllRules}
 use Rattle.scheme.proofs.Members.{member-at}
+use Rattle.scheme.proofs.Rounds.{agree-is}
 use Rattle.scheme.proofs.Certificates.{opened-by}
-use Rattle.board_keys.specs.Keys.{keySetup, dealKeyCall, dealKeyLeftG, memberCount, columnShares, columnOpened, keyOpening, openKeyRules}
+use Rattle.board_keys.specs.Keys.{keySetup, dealKeyCall, dealKeyLeftG, memberCount, columnShares, columnOpened, columnsAgree, keyOpening, openKeyRules}
 use Rattle.board_keys.proofs.Opened.{seven-determine, openKey-by-shares, openKey-gives, column-length, columns-below, columnShares-flat, key-columns, keyOf, four-answered}
-use Rattle.key_demand.specs.Keys.{KeyOpens, dealtShares, KeyBack}
+use Rattle.key_demand.specs.Keys.{KeyOpens, dealtShares, namedRounds, KeyBack}
 
 module _ (key random gs hs : List ℕ) (field : Vec 257 16 key) (e : dealKeyCall key random gs hs ≡ given []) where
   F : List ℕ
@@ -76,16 +78,30 @@ module _ (key random gs hs : List ℕ) (field : Vec 257 16 key) (e : dealKeyCall
         opened-by keySetup (holds s) (columnShares s xs b) (omega arith) (seven-determine s many) (λ k. entry 7 F k b) (λ a l. sym (share-is b a h l))
         ∙ ap given (tab-ext 4 _ _ (λ k l. ap (λ z. z % 257) (entry-is k b l h) ∙ mod-eq-of-lt (field .small (b * 4 + k) (omega arith))))
 
-    opens : allBelow 256 key ≡ true → (out : List ℕ) → length out ≡ 16 → KeyOpens s xs out key
-    opens bytes out room =
-        let ps = key-columns key (λ b. tab 4 (λ k. entry 4 key b k)) (field .size) (λ b k h l. getD-tab 4 (λ k. entry 4 key b k) 0 k l) in
-        let fine : refusal (openKeyRules s xs out) ≡ 0 = openKey-by-shares s xs out inside long room ∙ rw (columns-below s xs long shares-vec) refl in
-        let is : keyOpening s xs ≡ given key = four-answered s xs (λ b. tab 4 (λ k. entry 4 key b k)) column-is ∙ ap keyOf ps ∙ rw bytes refl in
-        let r = openKey-gives s xs out (given key) fine is in
-        record { answer = r .0; buffer = r .1 }
+    -- each column stands at the round named for it
+    module _ (named : ℕ → ℕ) where
+      rs : List ℕ
+      rs = namedRounds s named
+
+      one-round : columnsAgree s rs ≡ true
+      unfolding rs
+      one-round =
+          every-all 4 _ (λ b h.
+          rw (columnShares-flat s (λ b a. named b) b h)
+          (agree-is (named b) (tab (memberCount s) (λ a. named b)) (λ a l. getD-tab (memberCount s) _ 0 a (omega (arith, length-tab (memberCount s) (λ (a : ℕ). named b))))))
+
+      opens : allBelow 256 key ≡ true → (out : List ℕ) → length out ≡ 16 → KeyOpens s xs rs out key
+      unfolding rs
+      opens bytes out room =
+          let ps = key-columns key (λ b. tab 4 (λ k. entry 4 key b k)) (field .size) (λ b k h l. getD-tab 4 (λ k. entry 4 key b k) 0 k l) in
+          let fine : refusal (openKeyRules s xs rs out) ≡ 0 =
+          openKey-by-shares s xs rs out inside long (length-tab (4 * memberCount s) _) room ∙ rw (columns-below s xs long shares-vec, one-round) refl in
+          let is : keyOpening s xs ≡ given key = four-answered s xs (λ b. tab 4 (λ k. entry 4 key b k)) column-is ∙ ap keyOf ps ∙ rw bytes refl in
+          let r = openKey-gives s xs rs out (given key) fine is in
+          record { answer = r .0; buffer = r .1 }
 
 pub key-back : KeyBack
-unfolding xs left
-key-back key random gs hs bytes e s inside many out room =
+unfolding xs left rs
+key-back key random gs hs bytes e s inside many out room named =
     let field : Vec 257 16 key = record { size = bytes .size; small = λ k l. omega (arith, bytes .small k l) } in
-    opens key random gs hs field e s inside many (below-is 256 key (λ k l. bytes .small k (omega (arith, bytes .size)))) out room
+    opens key random gs hs field e s inside many named (below-is 256 key (λ k l. bytes .small k (omega (arith, bytes .size)))) out room

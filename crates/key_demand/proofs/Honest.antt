@@ -1,4 +1,4 @@
--- Where all follow the rules and every message arrives a key comes back, and elements that are no key are refused by 16; and there is such a run for all
+-- Where all follow the rules and every message arrives a key comes back in every round, and elements that are no key are refused by 16; and there is such a run for all
 -- elements and random entries: crate demand's theorems on honest dealings, at the setup of board keys.
 -- key-honest, key-run, key-present: the fields of BoardKeys
 use mathlib.Core.Path.{_≡_, refl, ap, sym, _∙_}
@@ -26,11 +26,11 @@ use Rattle.scheme.proofs.PointSets.{point-sets}
 use Rattle.board_keys.specs.Keys.{keySetup, memberCount}
 use Rattle.board_keys.proofs.Setup.{key-points, key-setup}
 use Rattle.board_keys.proofs.Opened.{key-columns}
-use Rattle.demand.specs.Demand.{Dealing, Done, Present, Array, column, ExactlyOne, Honest, HonestFound, arrayDealt}
-use Rattle.demand.proofs.Demand.{demand3}
+use Rattle.demand.specs.Demand.{Dealing, Member, Done, DoneZero, Applied, Present, Array, column, ExactlyOne, Honest, HonestFound, arrayDealt}
+use Rattle.demand.proofs.Demand.{hand, demand3}
 use Rattle.demand.proofs.Honest.{run, run-honest}
-use Rattle.key_demand.specs.Keys.{positions, KeyFound, HonestKey}
-use Rattle.key_demand.proofs.Found.{key-found, key-met}
+use Rattle.key_demand.specs.Keys.{KeyOpens, KeyHanded, KeyLevel, positions, KeyFound, HonestKey}
+use Rattle.key_demand.proofs.Found.{by-columns, key-found, key-met}
 use Rattle.key_demand.proofs.Sets.{key-sets}
 
 -- two arrays that are each the only one have the same positions
@@ -48,7 +48,8 @@ key-present group openers =
     let e = point-sets keySetup key-points (λ i. holds openers i && holds group i) .exactly (omega arith) in
     (λ d. leb-true 7 _ (sym e ∙ d), λ l. e ∙ le-leb 7 _ l)
 
-module _ (key random : List ℕ) (D : Dealing) (hon : Honest keySetup key random D) (group : ℕ) (inside : group < 2 ^ 16) (many : 7 ≤ memberCount group) where
+module _ (key random : List ℕ) (D : Dealing) (hon : Honest keySetup key random D) (group : ℕ) (inside : group < 2 ^ 16) (many : 7 ≤ memberCount group)
+    {J : Type 0} (Z : J → Dealing) (zeroDone : DoneZero keySetup group Z) where
   abbrev all : Unit {0} → Dealing
   all t = D
 
@@ -67,7 +68,7 @@ module _ (key random : List ℕ) (D : Dealing) (hon : Honest keySetup key random
       let r = not-refused (refusal (dealRules keySetup key random 0 (hon .lentG) (hon .lentH))) (given []) [] (hon .dealing 0 (omega arith)) in
       deal-ok keySetup key random 0 (hon .lentG) (hon .lentH) (r .0) .0 .vectors .size
 
-  array : (F : KeyFound group all tt) → positions (F .array) ≡ key
+  array : (F : KeyFound group all Z tt) → positions (F .array) ≡ key
   array F =
       same-positions group D (F .array) (arrayDealt keySetup key random) (F .one) (there .array group determined)
       ∙ key-columns key (column (arrayDealt keySetup key random)) sixteen (λ b k h l. there .vectors k b l h)
@@ -81,19 +82,30 @@ module _ (key random : List ℕ) (D : Dealing) (hon : Honest keySetup key random
       twice true = refl
       twice false = refl
 
-  pub key-honest : HonestKey key D group
+  found : KeyFound group all Z tt
+  found = key-found group all Z done zeroDone tt
+
+  opens : Vec 256 16 key → (A : Applied keySetup group all Z) (openers : ℕ) (handed rounds out : List ℕ) → KeyHanded group (A .slip) tt openers handed rounds
+      → length out ≡ 16 → ((i : ℕ) → Member keySetup openers i → Member keySetup group i) → KeyLevel (A .slip) tt openers
+      → KeyOpens openers handed rounds out key
+  opens bytes A openers handed rounds out hand room sub level =
+      let e = array found in
+      let b = below-is 256 key (λ k l. bytes .small k (omega (arith, bytes .size))) in
+      let r = found .never-refused A openers handed rounds out hand room sub level (ap (allBelow 256) e ∙ b) in
+      record { answer = r .answer; buffer = r .buffer ∙ e }
+
+  pub key-honest : HonestKey key D group Z
   key-honest =
-      let F = key-found group all done tt in
-      let e = array F in
       record {
         done = done;
         array = array;
-        opens = λ bytes openers handed out hand room sub.
-            let b = below-is 256 key (λ k l. bytes .small k (omega (arith, bytes .size))) in
-            let r = F .never-refused openers handed out hand room sub (ap (allBelow 256) e ∙ b) in
-            record { answer = r .answer; buffer = r .buffer ∙ e };
-        no-byte = λ f openers handed out hand room sub. F .no-byte openers handed out hand room sub (ap (allBelow 256) e ∙ f);
-        own = λ others. key-met group all done tt group inside own-present others;
+        opens = opens;
+        no-byte = λ f A openers handed rounds out hand room sub level.
+            found .no-byte A openers handed rounds out hand room sub level (ap (allBelow 256) (array found) ∙ f);
+        own = λ A others. key-met group all Z done zeroDone A tt group inside own-present others;
+        back = λ bytes A level out room.
+            opens bytes A group _ _ out
+            (by-columns group (A .slip tt) group (A .slip) tt (λ b h. hand keySetup key random D hon group determined Z zeroDone A b h)) room (λ i m. m) level;
       }
 
 pub key-run : (key random : List ℕ) → Vec 257 16 key → Vec 257 33 random → (D : Dealing) × Honest keySetup key random D

@@ -22,8 +22,9 @@ key-sets s inside =
     record {
       seven = λ many. rw (fine, seven-determine s many) refl;
       fewer = λ few. rw (fine, fewer-fail s few) refl;
-      six = λ few xs out v room.
-          openKey-gives s xs out (undetermined 0) (openKey-accepts s xs out (record { inside = inside; shares = v; room = room })) (few-open s xs few);
+      six = λ few xs rs out v long one room.
+          openKey-gives s xs rs out (undetermined 0) (openKey-accepts s xs rs out (record { inside = inside; shares = v; rounds = long; one-round = one; room = room }))
+          (few-open s xs few);
       three = λ few. rw (fine, private-by ∙ le-leb (memberCount s) 3 few) refl;
       four = λ many. rw (fine, private-by ∙ lt-leb (memberCount s) 3 many) refl;
     }

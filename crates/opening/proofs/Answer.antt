@@ -1,5 +1,6 @@
 -- From the reduced system to the answer of an opening: what is read off it is a certificate for what the definitions search.
--- open-taken: the set of an opening in order is taken
+-- open-taken: an opening whose table passes is taken
+-- secrets-few: it has at most 8 secrets
 -- opens-lacking, opens-unsolved, opens-solved: the three ways in which it ends
 use mathlib.Core.Path.{_≡_, refl, sym, ap, _∙_}
 use mathlib.Core.List.{List, []}
@@ -23,15 +24,18 @@ use Rattle.scheme.specs.Setup.{Setup, dim}
 use Rattle.scheme.specs.Answers.{undetermined, inconsistent}
 use Rattle.scheme.specs.Sets.{holds, members}
 use Rattle.scheme.specs.Opening.{opening}
-use Rattle.scheme.proofs.Calls.{OpenOk, set-accepts}
+use Rattle.scheme.proofs.Calls.{OpenOk, set-ok, set-accepts}
 use Rattle.scheme.proofs.Certificates.{opened-by, inconsistent-in-hand}
 use Rattle.set_systems.specs.Inner.{SetTaken, membersOf, beside, Eliminated}
 use Rattle.set_systems.proofs.Members.{prime-of, wide}
 use Rattle.set_systems.proofs.Systems.{beside-rows, beside-shares, beside-dot, determines-by}
-use Rattle.opening.specs.Inner.{OpenedAs}
+use Rattle.opening.specs.Inner.{OpenTaken, OpenedAs}
 
-pub open-taken : {S : Setup} {s : ℕ} {xs out : List ℕ} → OpenOk S s xs out → SetTaken S s
-open-taken ok = record { accepted = set-accepts _ _ (ok .set) }
+pub open-taken : {S : Setup} {s : ℕ} {xs rs out : List ℕ} → OpenOk S s xs rs out → OpenTaken S s xs out
+open-taken ok = record { set = record { accepted = set-accepts _ _ (ok .set) }; shares = ok .shares; room = ok .room }
+
+pub secrets-few : {S : Setup} {s : ℕ} {xs out : List ℕ} → OpenTaken S s xs out → S .l ≤ 8
+secrets-few {S} {s} t = set-ok S s (t .set .accepted) .setup .limits .secret .1
 
 module _ {S : Setup} {s : ℕ} (ok : SetTaken S s) {xs a u : List ℕ} {r : ℕ} (E : Eliminated S s xs a u r) where
   -- a position with no row

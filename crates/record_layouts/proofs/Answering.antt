@@ -3,7 +3,7 @@
 use mathlib.Core.Path.{_≡_, refl, sym, ap, _∙_}
 use mathlib.Core.Bool.{Bool, true, false, not, _&&_}
 use mathlib.Core.List.{List, [], _∷_, _++_}
-use Prim.Native.Nat.{ℕ, _*_}
+use Prim.Native.Nat.{ℕ, _*_, _≤_, _<_}
 use native.Mathlib.Omega.{arith}
 use lib.Dec.{eqb}
 use lib.ListN.{length}
@@ -23,9 +23,10 @@ use Rattle.record_layouts.specs.declared.ShareRecord.{ShareRecord}
 use Rattle.record_layouts.specs.Records.{dealingLent, writeRules, writeCall, readRules, readCall, setupWords, setupSize, writeSetupRules, readSetupRules, readMatrixRules}
 use Rattle.record_layouts.specs.Records.{parts, dealingWords, dealingSize, dealingFaults, dealingLayout, readDealingRules}
 use Rattle.record_layouts.specs.Records.{markPV, markPF, pairSize, pairAt, pairValues, pairFaults, pairLayoutOf, pairLayout, mappedPairLayout, verdictWords, verdictSize, verdictFaults, verdictLayout, shareWords, shareSize, shareFaults, shareLayout}
+use Rattle.record_layouts.specs.Records.{zeroWords, zeroSize, zeroLayout, zeroLent, readZeroRules}
 use Rattle.record_layouts.specs.Records.{mappedParts, mappedWords, mappedSize, mappedLayout, mappedLent, readMappedRules}
-use Rattle.record_layouts.specs.Answering.{RecordsMarked, WritersRising, DealingInOrder, PairInOrder, VerdictInOrder, ShareInOrder, RecordsAnswering}
-use Rattle.record_layouts.proofs.Layouts.{dealing-lawful, mapped-lawful, pair-lawful, verdict-lawful, share-lawful}
+use Rattle.record_layouts.specs.Answering.{RecordsMarked, WritersRising, DealingInOrder, ZeroInOrder, PairInOrder, VerdictInOrder, ShareInOrder, RecordsAnswering}
+use Rattle.record_layouts.proofs.Layouts.{dealing-lawful, zero-lawful, mapped-lawful, pair-lawful, verdict-lawful, share-lawful}
 use Rattle.record_layouts.proofs.Calls.{matrix-as-setup}
 use Rattle.record_layouts.proofs.ReadBack.{fair, setup-at, setup-fair}
 
@@ -38,6 +39,8 @@ records-marked =
       read-matrix = λ s m. marked-by (refusal (readMatrixRules s (length m))) (given []) refl;
       write-dealing = λ S x g h out. marked-by (refusal (writeRules dealingLayout S (parts x g h) (length out))) (given []) refl;
       read-dealing = λ S s g h. marked-by (refusal (readDealingRules S s (length g) (length h))) (given _) refl;
+      write-zero = λ S x g h out. marked-by (refusal (writeRules zeroLayout S (parts x g h) (length out))) (given []) refl;
+      read-zero = λ S s g h. marked-by (refusal (readZeroRules S s (length g) (length h))) (given _) refl;
       write-mapped = λ S x g h phi out. marked-by (refusal (writeRules mappedLayout S (mappedParts x g h phi) (length out))) (given []) refl;
       read-mapped = λ S s g h phi. marked-by (refusal (readMappedRules S s (length g) (length h) (length phi))) (given _) refl;
       write-pair = λ S x out. marked-by (refusal (writeRules pairLayout S x (length out))) (given []) refl;
@@ -56,6 +59,7 @@ writers-rising =
     record {
       setup = λ S k. tt;
       dealing = λ S x k. tt;
+      zero = λ S x k. tt;
       mapped = λ S x k. tt;
       pair = λ S x k. tt;
       mapped-pair = λ S x k. tt;
@@ -67,8 +71,8 @@ writers-rising =
 pub answers-by : (r : ℕ) (vs : List ℕ) → r ≡ 0 → Answers (answerBy r (given vs))
 answers-by r vs e = sym (ap (λ (a : Answer). a .answered) (accepted r (given vs) e))
 
-dealing-clear : (S : Setup) (x : DealingRecord) (g h : List ℕ) → DealingInOrder S x g h → Clear (dealingFaults S x)
-dealing-clear S x g h w = (lt-leb (S .n) (x .holder) (w .holder), (ne-eqb (x .dealing) 0 (λ z. omega (arith, w .dealing, z)), tt))
+dealing-clear : (S : Setup) (x : DealingRecord) → 1 ≤ x .dealing → x .holder < S .n → Clear (dealingFaults S x)
+dealing-clear S x d h = (lt-leb (S .n) (x .holder) h, (ne-eqb (x .dealing) 0 (λ z. omega (arith, d, z)), tt))
 
 pair-clear : (S : Setup) (x : PairRecord) → PairInOrder S x → Clear (pairFaults S x)
 pair-clear S x w = (
@@ -120,21 +124,30 @@ records-answering =
       write-dealing = λ S x g h out L w e.
           answers-by (refusal (writeRules dealingLayout S (parts x g h) (length out))) []
           (accepts S (room (length out) (dealingSize S) ∷ elements g (dim S) ∷ elements h (dim S) ∷ []) (dealingFaults S x) L
-          (e, (w .row, (w .column, tt))) (dealing-clear S x g h w));
+          (e, (w .row, (w .column, tt))) (dealing-clear S x (w .dealing) (w .holder)));
       read-dealing = λ S x g h rest a b L w i j.
           answers-by (refusal (readDealingRules S (bytes (dealingWords x g h) ++ rest) (length a) (length b))) _
           (fair dealingLayout dealing-lawful S (parts x g h) rest (dealingLent S (length a) (length b)) L
           (size-clear _ _ (w .row .size), (size-clear _ _ (w .column .size), tt))
-          (elements-clear (S .p) _ g (w .row), (elements-clear (S .p) _ h (w .column), dealing-clear S x g h w)) (i, (j, tt)));
+          (elements-clear (S .p) _ g (w .row), (elements-clear (S .p) _ h (w .column), dealing-clear S x (w .dealing) (w .holder))) (i, (j, tt)));
+      write-zero = λ S x g h out L w e.
+          answers-by (refusal (writeRules zeroLayout S (parts x g h) (length out))) []
+          (accepts S (room (length out) (zeroSize S) ∷ elements g (dim S) ∷ elements h (S .e) ∷ []) (dealingFaults S x) L
+          (e, (w .row, (w .column, tt))) (dealing-clear S x (w .dealing) (w .holder)));
+      read-zero = λ S x g h rest a b L w i j.
+          answers-by (refusal (readZeroRules S (bytes (zeroWords x g h) ++ rest) (length a) (length b))) _
+          (fair zeroLayout zero-lawful S (parts x g h) rest (zeroLent S (length a) (length b)) L
+          (size-clear _ _ (w .row .size), (size-clear _ _ (w .column .size), tt))
+          (elements-clear (S .p) _ g (w .row), (elements-clear (S .p) _ h (w .column), dealing-clear S x (w .dealing) (w .holder))) (i, (j, tt)));
       write-mapped = λ S x g h phi out L w v e.
           answers-by (refusal (writeRules mappedLayout S (mappedParts x g h phi) (length out))) []
           (accepts S (room (length out) (mappedSize S) ∷ elements g (dim S) ∷ elements h (dim S) ∷ elements phi (S .l * S .l) ∷ []) (dealingFaults S x) L
-          (e, (w .row, (w .column, (v, tt)))) (dealing-clear S x g h w));
+          (e, (w .row, (w .column, (v, tt)))) (dealing-clear S x (w .dealing) (w .holder)));
       read-mapped = λ S x g h phi rest a b c L w v i j k.
           answers-by (refusal (readMappedRules S (bytes (mappedWords x g h phi) ++ rest) (length a) (length b) (length c))) _
           (fair mappedLayout mapped-lawful S (mappedParts x g h phi) rest (mappedLent S (length a) (length b) (length c)) L
           (size-clear _ _ (w .row .size), (size-clear _ _ (w .column .size), (size-clear _ _ (v .size), tt)))
-          (elements-clear (S .p) _ g (w .row), (elements-clear (S .p) _ h (w .column), (elements-clear (S .p) _ phi v, dealing-clear S x g h w))) (i, (j, (k, tt))));
+          (elements-clear (S .p) _ g (w .row), (elements-clear (S .p) _ h (w .column), (elements-clear (S .p) _ phi v, dealing-clear S x (w .dealing) (w .holder)))) (i, (j, (k, tt))));
       write-pair = λ S x out L w e. pair-written markPV S x L w out e;
       read-pair = λ S x rest L w. pair-answered markPV S x L w rest;
       write-mapped-pair = λ S x out L w e. pair-written markPF S x L w out e;

@@ -18,10 +18,11 @@ use Rattle.scheme.proofs.Calls.{limits-are, limits-pos, size-is, size-clear, ve
 use Rattle.record_layouts.specs.declared.DealingRecord.{DealingRecord}
 use Rattle.record_layouts.specs.Words.{wordAt, wordsAt}
 use Rattle.record_layouts.proofs.Words.{length-words, below-words, every-none}
-use Rattle.record_layouts.specs.Records.{due, Layout, markSU, setupSize, setupAt, dueSetup, readSetupRules, readMatrixRules, paramsAt, standingRules, readRules}
-use Rattle.record_layouts.specs.Records.{markDL, dealingSize, dealingAt, dealingG, dealingH, dealingFaults, dealingLayout, dealingLent, readDealingRules, mappedSize, mappedLayout, mappedLent, readMappedRules}
+use Rattle.record_layouts.specs.Records.{due, Layout, markSU, setupSize, setupAt, dueSetup, readSetupRules, readMatrixRules, paramsAt, listsRules, standingRules, readRules}
+use Rattle.record_layouts.specs.Records.{dealingSize, dealingAt, dealingG, partsH, dealingH, dealingFaults, partsLayoutOf, dealingLayout, dealingLent, readDealingRules}
+use Rattle.record_layouts.specs.Records.{zeroSize, zeroLayout, zeroLent, readZeroRules, markDF, mappedSize, mappedLayout, mappedLent, readMappedRules}
 use Rattle.record_layouts.specs.Inner.{listRules, partsRules}
-use Rattle.record_layouts.proofs.Layouts.{Lawful, dealing-lawful, mapped-lawful}
+use Rattle.record_layouts.proofs.Layouts.{Lawful, dealing-lawful, zero-lawful, mapped-lawful}
 
 -- a rule that does not hold leaves what stands
 pub passed-over : (r k : ℕ) (l : List Rule) → refusalFrom r ((k when false) ∷ l) ≡ refusalFrom r l
@@ -111,25 +112,41 @@ matrix-room s k e =
     let r = clear (readMatrixRules s k) tt e .1 .1 .1 .1 .1 .1 .1 in
     (size-is k _ (r .1 .0), ltb-false (length s) (setupSize (setupAt s)) (r .0))
 
--- DL AND DF
--- a whole record: its entries decide, as they are read with the length d
-pub by-lists : (mark more : ℕ) (S : Setup) (s : List ℕ) (d b c e : ℕ) → refusal (due mark (dealingSize S + 2 * more) s) ≡ 0 → d ≡ dim S
-    → b ≡ orWhen 0 4 (not (allBelow (S .p) (wordsAt s 3 d))) → c ≡ orWhen b 4 (not (allBelow (S .p) (wordsAt s (3 + d) d)))
-    → e ≡ orWhen c 4 (not (allBelow (S .p) (wordsAt s (3 + 2 * d) more)))
-    → e ≡ refusal (listRules mark more S s)
-by-lists mark more S s d b c e z f i j k =
-    let whole = due mark (dealingSize S + 2 * more) s in
-    rw (k, j, i, f)
-    (sym (refusal-after whole (beyondField (S .p) (dealingG S s) ∷ beyondField (S .p) (dealingH S s) ∷ beyondField (S .p) (wordsAt s (3 + 2 * dim S) more) ∷ []) (clear whole tt z)))
+-- DL, DZ AND DF
+-- a whole record: its entries decide, as they are read with the length d of g
+pub by-lists : (mark k more : ℕ) (S : Setup) (s : List ℕ) (d b c e : ℕ) → refusal (due mark (6 + 2 * (dim S + k + more)) s) ≡ 0 → d ≡ dim S
+    → b ≡ orWhen 0 4 (not (allBelow (S .p) (wordsAt s 3 d))) → c ≡ orWhen b 4 (not (allBelow (S .p) (wordsAt s (3 + d) k)))
+    → e ≡ orWhen c 4 (not (allBelow (S .p) (wordsAt s (3 + d + k) more)))
+    → e ≡ refusal (listRules mark k more S s)
+by-lists mark k more S s d b c e z f i j l =
+    let whole = due mark (6 + 2 * (dim S + k + more)) s in
+    rw (l, j, i, f)
+    (sym (refusal-after whole (beyondField (S .p) (dealingG S s) ∷ beyondField (S .p) (partsH k S s) ∷ beyondField (S .p) (wordsAt s (3 + dim S + k) more) ∷ []) (clear whole tt z)))
 
--- with no elements behind h these are the rules of DL
-pub none-behind : (S : Setup) (s : List ℕ) → refusal (partsRules markDL 0 S s) ≡ refusal (standingRules dealingLayout S s)
-none-behind S s =
-    let before : List Rule = due markDL (dealingSize S) s ++ beyondField (S .p) (dealingG S s) ∷ beyondField (S .p) (dealingH S s) ∷ [] in
+-- with no elements behind h these are the rules of DL and of DZ
+pub none-behind : (mark : ℕ) (size many : Setup → ℕ) (S : Setup) (s : List ℕ) → 6 + 2 * (dim S + many S) ≡ size S
+    → refusal (partsRules mark (many S) 0 S s) ≡ refusal (standingRules (partsLayoutOf mark size many) S s)
+none-behind mark size many S s e =
+    let before : List Rule = due mark (size S) s ++ beyondField (S .p) (dealingG S s) ∷ beyondField (S .p) (partsH (many S) S s) ∷ [] in
     let after = dealingFaults S (dealingAt s) in
-    let b = below-words (S .p) s (3 + 2 * dim S) 0 ∙ every-none _ in
-    rw (add-zero (dealingSize S), b)
+    let b = below-words (S .p) s (3 + dim S + many S) 0 ∙ every-none _ in
+    rw (add-zero (dim S + many S), e, b)
     (joined 0 before ((4 when false) ∷ after) ∙ passed-over (refusal before) 4 after ∙ sym (joined 0 before after))
+
+-- with ℓ * ℓ elements behind h they are those of DF
+module _ (S : Setup) (s : List ℕ) where
+  abbrev mapTo : ℕ → ℕ → List Rule
+  mapTo n i =
+      due markDF n s ++ (beyondField (S .p) (dealingG S s) ∷ beyondField (S .p) (dealingH S s) ∷ beyondField (S .p) (wordsAt s i (S .l * S .l)) ∷ [])
+
+  pub map-lists-behind : refusal (listRules markDF (dim S) (S .l * S .l) S s) ≡ refusal (listsRules mappedLayout S s)
+  map-lists-behind =
+      ap (λ n. refusal (mapTo n (3 + dim S + dim S))) (omega arith) ∙ ap (λ i. refusal (mapTo (mappedSize S) i)) (omega arith)
+
+  pub map-parts-behind : refusal (partsRules markDF (dim S) (S .l * S .l) S s) ≡ refusal (standingRules mappedLayout S s)
+  map-parts-behind =
+      let after = dealingFaults S (dealingAt s) in
+      ap (λ n. refusal (mapTo n (3 + dim S + dim S) ++ after)) (omega arith) ∙ ap (λ i. refusal (mapTo (mappedSize S) i ++ after)) (omega arith)
 
 -- a reader that is not refused: all that is lent is as needed, and the record stands there whole
 read-room : {A : Type 0} (L : Layout A) (W : Lawful A L) (S : Setup) (lent : List Lent) (s : List ℕ) → refusal (readRules L S lent s) ≡ 0
@@ -141,6 +158,10 @@ read-room L W S lent s e =
 pub parts-room : (S : Setup) (s : List ℕ) (j k : ℕ) → refusal (readDealingRules S s j k) ≡ 0
     → (j ≡ dim S) × (k ≡ dim S) × (dealingSize S ≤ length s)
 parts-room S s j k e = let r = read-room dealingLayout dealing-lawful S (dealingLent S j k) s e in (r .0 .0, r .0 .1 .0, r .1)
+
+pub zero-room : (S : Setup) (s : List ℕ) (j k : ℕ) → refusal (readZeroRules S s j k) ≡ 0
+    → (j ≡ dim S) × (k ≡ S .e) × (zeroSize S ≤ length s)
+zero-room S s j k e = let r = read-room zeroLayout zero-lawful S (zeroLent S j k) s e in (r .0 .0, r .0 .1 .0, r .1)
 
 pub mapped-room : (S : Setup) (s : List ℕ) (i j k : ℕ) → refusal (readMappedRules S s i j k) ≡ 0
     → (i ≡ dim S) × (j ≡ dim S) × (k ≡ S .l * S .l) × (mappedSize S ≤ length s)

@@ -13,9 +13,9 @@ use Rattle.scheme.specs.Calls.{limits, Lent, room, sizes, inField, matrix}
 use Rattle.scheme.proofs.Calls.{limits-clear, size-clear, in-order, accepts}
 use Rattle.record_layouts.specs.Words.{bytes, wordAt, Bytes}
 use Rattle.record_layouts.proofs.Words.{Shows, length-words, shows-words, bytes-shown}
-use Rattle.record_layouts.specs.Records.{due, Layout, allWords, writeRules, writeCall, writeLeft, readCall, markSU, setupWords, setupSize, setupAt, writeSetupRules, readMatrixRules, dealingLayout, dealingLent, mappedLayout, mappedLent, markPV, markPF, pairLayout, mappedPairLayout, verdictLayout, shareLayout}
+use Rattle.record_layouts.specs.Records.{due, Layout, allWords, writeRules, writeCall, writeLeft, readCall, markSU, setupWords, setupSize, setupAt, writeSetupRules, readMatrixRules, dealingLayout, dealingLent, zeroLayout, zeroLent, mappedLayout, mappedLent, markPV, markPF, pairLayout, mappedPairLayout, verdictLayout, shareLayout}
 use Rattle.record_layouts.specs.Sound.{Rewritten, Exact}
-use Rattle.record_layouts.proofs.Layouts.{Lawful, dealing-lawful, mapped-lawful, pair-lawful, verdict-lawful, share-lawful}
+use Rattle.record_layouts.proofs.Layouts.{Lawful, dealing-lawful, zero-lawful, mapped-lawful, pair-lawful, verdict-lawful, share-lawful}
 use Rattle.record_layouts.proofs.Calls.{setup-read, matrix-room, matrix-as-setup}
 
 -- a writer that is not refused, of words that have the bytes read
@@ -72,6 +72,7 @@ exact =
     record {
       setup = λ s m out b k e. setup-exact s m out b k (not-refused _ (given []) [] e .0);
       dealing = λ S s g h out vs b k e. exact-by dealingLayout dealing-lawful S s (dealingLent S (length g) (length h)) out _ vs b k e;
+      zero = λ S s g h out vs b k e. exact-by zeroLayout zero-lawful S s (zeroLent S (length g) (length h)) out _ vs b k e;
       mapped = λ S s g h phi out vs b k e. exact-by mappedLayout mapped-lawful S s (mappedLent S (length g) (length h) (length phi)) out _ vs b k e;
       pair = λ S s out vs b k e. exact-by pairLayout (pair-lawful markPV) S s [] out _ vs b k e;
       mapped-pair = λ S s out vs b k e. exact-by mappedPairLayout (pair-lawful markPF) S s [] out _ vs b k e;

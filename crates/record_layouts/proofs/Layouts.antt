@@ -20,7 +20,8 @@ use Rattle.record_layouts.specs.declared.DealingRecord.{DealingRecord}
 use Rattle.record_layouts.specs.declared.PairRecord.{PairRecord}
 use Rattle.record_layouts.specs.declared.VerdictRecord.{VerdictRecord}
 use Rattle.record_layouts.specs.declared.ShareRecord.{ShareRecord}
-use Rattle.record_layouts.specs.Records.{Layout, allWords, writeRules, markDL, DealingParts, parts, dealingWords, dealingAt, dealingG, dealingH, dealingLayout}
+use Rattle.record_layouts.specs.Records.{Layout, allWords, writeRules, markDL, DealingParts, parts, dealingWords, dealingSize, dealingAt, dealingG, partsH, dealingH, partsLayoutOf, dealingLayout}
+use Rattle.record_layouts.specs.Records.{markDZ, zeroWords, zeroSize, zeroH, zeroLayout}
 use Rattle.record_layouts.specs.Records.{markDF, MappedParts, mappedParts, mappedWords, mappedPhi, mappedLayout, pairValues, pairLayoutOf, verdictWords, verdictLayout, shareWords, shareLayout}
 
 pub record Lawful (A : Type 0) (L : Layout A) : Type 0 where
@@ -69,16 +70,33 @@ module _ (mark : ℕ) (x : DealingRecord) (g h rest : List ℕ) where
   g-in : (S : Setup) → length g ≡ dim S → dealingG S partsIn ≡ g
   g-in S i = words-of (mark ∷ x .dealing ∷ x .holder ∷ []) g h rest 3 (dim S) refl i
 
-  h-in : (S : Setup) → length g ≡ dim S → length h ≡ dim S → dealingH S partsIn ≡ h
-  h-in S i j = rw (append-nil h) at (words-of (mark ∷ x .dealing ∷ x .holder ∷ g) h [] rest (3 + dim S) (dim S) (omega (arith, i)) j)
+  h-in : (S : Setup) (k : ℕ) → length g ≡ dim S → length h ≡ k → partsH k S partsIn ≡ h
+  h-in S k i j = rw (append-nil h) at (words-of (mark ∷ x .dealing ∷ x .holder ∷ g) h [] rest (3 + dim S) k (omega (arith, i)) j)
 
-module _ (S : Setup) (s : List ℕ) where
-  parts-shown : Shows s 3 (dealingG S s ++ dealingH S s)
+module _ (S : Setup) (k : ℕ) (s : List ℕ) where
+  parts-shown : Shows s 3 (dealingG S s ++ partsH k S s)
   parts-shown =
-      shows-append s 3 (dealingG S s) (dealingH S s) (3 + dim S) (omega (arith, length-words s 3 (dim S))) (shows-words s 3 (dim S)) (shows-words s (3 + dim S) (dim S))
+      shows-append s 3 (dealingG S s) (partsH k S s) (3 + dim S) (omega (arith, length-words s 3 (dim S))) (shows-words s 3 (dim S)) (shows-words s (3 + dim S) k)
 
-  parts-long : length (dealingG S s ++ dealingH S s) ≡ 2 * dim S
-  parts-long = omega (arith, length-append (dealingG S s) (dealingH S s), length-words s 3 (dim S), length-words s (3 + dim S) (dim S))
+  parts-long : length (dealingG S s ++ partsH k S s) ≡ dim S + k
+  parts-long = omega (arith, length-append (dealingG S s) (partsH k S s), length-words s 3 (dim S), length-words s (3 + dim S) k)
+
+pub parts-lawful : (mark : ℕ) (size many : Setup → ℕ) → ((S : Setup) → 6 + 2 * (dim S + many S) ≡ size S) → Lawful DealingParts (partsLayoutOf mark size many)
+parts-lawful mark size many e =
+    record {
+      positive-written = λ S x k. tt;
+      positive-read = λ S x. tt;
+      long = λ S x c. omega (arith, e S, length-append (x .g) (x .h), size-is (length (x .g)) (dim S) (c .0), size-is (length (x .h)) (many S) (c .1 .0));
+      again = λ S x rest c.
+          let i = size-is (length (x .g)) (dim S) (c .0) in
+          let j = size-is (length (x .h)) (many S) (c .1 .0) in
+          let s : List ℕ = bytes (mark ∷ x .numbers .dealing ∷ x .numbers .holder ∷ x .g ++ x .h) ++ rest in
+          ap (λ (y : DealingRecord). parts y (dealingG S s) (partsH (many S) S s)) (numbers-in mark (x .numbers) (x .g) (x .h) rest)
+          ∙ ap (λ (y : List ℕ). parts (x .numbers) y (partsH (many S) S s)) (g-in mark (x .numbers) (x .g) (x .h) rest S i)
+          ∙ ap (λ (y : List ℕ). parts (x .numbers) (x .g) y) (h-in mark (x .numbers) (x .g) (x .h) rest S (many S) i j);
+      full = λ S s. (size-clear _ (dim S) (length-words s 3 (dim S)), (size-clear _ (many S) (length-words s (3 + dim S) (many S)), tt));
+      shows = λ S s. (refl, (refl, parts-shown S (many S) s));
+    }
 
 -- DL
 pub dealing-at : (x : DealingRecord) (g h rest : List ℕ) → dealingAt (bytes (dealingWords x g h) ++ rest) ≡ x
@@ -89,24 +107,24 @@ module _ (S : Setup) (x : DealingRecord) (g h rest : List ℕ) (i : length g ≡
   row-at = g-in markDL x g h rest S i
 
   pub column-at : dealingH S (bytes (dealingWords x g h) ++ rest) ≡ h
-  column-at = h-in markDL x g h rest S i j
+  column-at = h-in markDL x g h rest S (dim S) i j
 
 pub dealing-lawful : Lawful DealingParts dealingLayout
-dealing-lawful =
-    record {
-      positive-written = λ S x k. tt;
-      positive-read = λ S x. tt;
-      long = λ S x c. omega (arith, length-append (x .g) (x .h), size-is (length (x .g)) (dim S) (c .0), size-is (length (x .h)) (dim S) (c .1 .0));
-      again = λ S x rest c.
-          let i = size-is (length (x .g)) (dim S) (c .0) in
-          let j = size-is (length (x .h)) (dim S) (c .1 .0) in
-          let s : List ℕ = bytes (dealingWords (x .numbers) (x .g) (x .h)) ++ rest in
-          ap (λ (y : DealingRecord). parts y (dealingG S s) (dealingH S s)) (dealing-at (x .numbers) (x .g) (x .h) rest)
-          ∙ ap (λ (y : List ℕ). parts (x .numbers) y (dealingH S s)) (row-at S (x .numbers) (x .g) (x .h) rest i j)
-          ∙ ap (λ (y : List ℕ). parts (x .numbers) (x .g) y) (column-at S (x .numbers) (x .g) (x .h) rest i j);
-      full = λ S s. (size-clear _ (dim S) (length-words s 3 (dim S)), (size-clear _ (dim S) (length-words s (3 + dim S) (dim S)), tt));
-      shows = λ S s. (refl, (refl, parts-shown S s));
-    }
+dealing-lawful = parts-lawful markDL dealingSize (λ S. dim S) (λ S. omega arith)
+
+-- DZ
+pub zero-at : (x : DealingRecord) (g h rest : List ℕ) → dealingAt (bytes (zeroWords x g h) ++ rest) ≡ x
+zero-at x g h rest = numbers-in markDZ x g h rest
+
+module _ (S : Setup) (x : DealingRecord) (g h rest : List ℕ) (i : length g ≡ dim S) (j : length h ≡ S .e) where
+  pub zero-row-at : dealingG S (bytes (zeroWords x g h) ++ rest) ≡ g
+  zero-row-at = g-in markDZ x g h rest S i
+
+  pub zero-column-at : zeroH S (bytes (zeroWords x g h) ++ rest) ≡ h
+  zero-column-at = h-in markDZ x g h rest S (S .e) i j
+
+pub zero-lawful : Lawful DealingParts zeroLayout
+zero-lawful = parts-lawful markDZ zeroSize (λ S. S .e) (λ S. omega arith)
 
 -- DF: DL's fields, then φ
 map-behind : (x : DealingRecord) (g h phi rest : List ℕ)
@@ -123,7 +141,7 @@ module _ (S : Setup) (x : DealingRecord) (g h phi rest : List ℕ) (i : length g
   mapped-row-at = ap (dealingG S) (map-behind x g h phi rest) ∙ g-in markDF x g h (bytes phi ++ rest) S i
 
   pub mapped-column-at : dealingH S (bytes (mappedWords x g h phi) ++ rest) ≡ h
-  mapped-column-at = ap (dealingH S) (map-behind x g h phi rest) ∙ h-in markDF x g h (bytes phi ++ rest) S i j
+  mapped-column-at = ap (dealingH S) (map-behind x g h phi rest) ∙ h-in markDF x g h (bytes phi ++ rest) S (dim S) i j
 
   pub mapped-phi-at : mappedPhi S (bytes (mappedWords x g h phi) ++ rest) ≡ phi
   mapped-phi-at =
@@ -161,7 +179,7 @@ mapped-lawful =
         refl,
         (
           refl,
-          shows-append s 3 (dealingG S s ++ dealingH S s) (mappedPhi S s) (3 + 2 * dim S) (omega (arith, parts-long S s)) (parts-shown S s)
+          shows-append s 3 (dealingG S s ++ dealingH S s) (mappedPhi S s) (3 + 2 * dim S) (omega (arith, parts-long S (dim S) s)) (parts-shown S (dim S) s)
               (shows-words s (3 + 2 * dim S) (S .l * S .l)),
         ),
       );
@@ -198,7 +216,7 @@ share-lawful =
       positive-written = λ S x k. tt;
       positive-read = λ S x. tt;
       long = λ S x c. refl;
-      again = λ S x rest c. let w = word-of (shareWords x) rest in rw (w 1 (omega arith), w 2 (omega arith), w 3 (omega arith), w 4 (omega arith));
+      again = λ S x rest c. let w = word-of (shareWords x) rest in rw (w 1 (omega arith), w 2 (omega arith), w 3 (omega arith), w 4 (omega arith), w 5 (omega arith));
       full = λ S s. tt;
-      shows = λ S s. (refl, (refl, (refl, (refl, tt))));
+      shows = λ S s. (refl, (refl, (refl, (refl, (refl, tt)))));
     }

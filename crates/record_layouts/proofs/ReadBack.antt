@@ -19,9 +19,10 @@ use Rattle.record_layouts.proofs.Words.{length-bytes, word-of, words-of
 use Rattle.record_layouts.specs.declared.DealingRecord.{DealingRecord}
 use Rattle.record_layouts.specs.Records.{due, Layout, allWords, writeRules, writeCall, writeLeft, readRules, readCall, markSU, setupWords, setupSize, setupAt, writeSetupRules, readSetupRules, readMatrixRules}
 use Rattle.record_layouts.specs.Records.{DealingParts, parts, dealingWords, dealingFaults, dealingLayout, dealingLent, standingRules, pairValues, pairLayout, verdictValues, verdictLayout, shareValues, shareLayout}
+use Rattle.record_layouts.specs.Records.{zeroWords, zeroLayout, zeroLent}
 use Rattle.record_layouts.specs.Records.{MappedParts, mappedParts, mappedWords, mappedLayout, mappedLent, markPV, markPF, mappedPairLayout}
 use Rattle.record_layouts.specs.Sound.{inFile, SetupReads, ReadBack}
-use Rattle.record_layouts.proofs.Layouts.{Lawful, wrote, dealing-lawful, mapped-lawful, pair-lawful, verdict-lawful, share-lawful}
+use Rattle.record_layouts.proofs.Layouts.{Lawful, wrote, dealing-lawful, zero-lawful, mapped-lawful, pair-lawful, verdict-lawful, share-lawful}
 use Rattle.record_layouts.proofs.Calls.{matrix-as-setup}
 
 -- a record's own bytes are due where it stands
@@ -116,6 +117,11 @@ pub dealing-fair : (S : Setup) (x : DealingRecord) (g h rest : List ℕ) → len
     → Clear (beyondField (S .p) g ∷ beyondField (S .p) h ∷ dealingFaults S x) → refusal (standingRules dealingLayout S (bytes (dealingWords x g h) ++ rest)) ≡ 0
 dealing-fair S x g h rest i j c = stands dealingLayout dealing-lawful S (parts x g h) rest (size-clear _ _ i, (size-clear _ _ j, tt)) c
 
+-- DZ, as it stands in a file
+pub zero-fair : (S : Setup) (x : DealingRecord) (g h rest : List ℕ) → length g ≡ dim S → length h ≡ S .e
+    → Clear (beyondField (S .p) g ∷ beyondField (S .p) h ∷ dealingFaults S x) → refusal (standingRules zeroLayout S (bytes (zeroWords x g h) ++ rest)) ≡ 0
+zero-fair S x g h rest i j c = stands zeroLayout zero-lawful S (parts x g h) rest (size-clear _ _ i, (size-clear _ _ j, tt)) c
+
 -- DF, as it stands in a file
 pub mapped-fair : (S : Setup) (x : DealingRecord) (g h phi rest : List ℕ) → length g ≡ dim S → length h ≡ dim S → length phi ≡ S .l * S .l
     → Clear (beyondField (S .p) g ∷ beyondField (S .p) h ∷ beyondField (S .p) phi ∷ dealingFaults S x)
@@ -136,6 +142,13 @@ read-back =
             numbers = λ a b i j. answer-back dealingLayout dealing-lawful S (parts x g h) out before rest e (lent a b) (i, (j, tt)) (λ (y : DealingParts). y .numbers .dealing ∷ y .numbers .holder ∷ []);
             row = λ a b i j. list-back dealingLayout dealing-lawful S (parts x g h) out before rest e (lent a b) (i, (j, tt)) (λ (y : DealingParts). y .g) a;
             column = λ a b i j. list-back dealingLayout dealing-lawful S (parts x g h) out before rest e (lent a b) (i, (j, tt)) (λ (y : DealingParts). y .h) b;
+          };
+      zero = λ S x g h out before rest e.
+          let lent : List ℕ → List ℕ → List Lent = λ a b. zeroLent S (length a) (length b) in
+          record {
+            numbers = λ a b i j. answer-back zeroLayout zero-lawful S (parts x g h) out before rest e (lent a b) (i, (j, tt)) (λ (y : DealingParts). y .numbers .dealing ∷ y .numbers .holder ∷ []);
+            row = λ a b i j. list-back zeroLayout zero-lawful S (parts x g h) out before rest e (lent a b) (i, (j, tt)) (λ (y : DealingParts). y .g) a;
+            column = λ a b i j. list-back zeroLayout zero-lawful S (parts x g h) out before rest e (lent a b) (i, (j, tt)) (λ (y : DealingParts). y .h) b;
           };
       mapped = λ S x g h phi out before rest e.
           let lent : List ℕ → List ℕ → List ℕ → List Lent = λ a b c. mappedLent S (length a) (length b) (length c) in

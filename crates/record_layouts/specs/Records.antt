@@ -1,4 +1,4 @@
--- The records of document 01 ("Records") and of document 02, A7. A record is a list of words, of which word 0 is its mark; all that is said of one is its layout, and the
+-- The records of document 01 ("Records") and of document 02, A7 and A8. A record is a list of words, of which word 0 is its mark; all that is said of one is its layout, and the
 -- calls that write and read it follow from that. A writer's table has rising numbers, "in a call the lowest number that applies is given". A reader's
 -- has first what the caller lends, the numbers of a setup and the lengths of buffers, and then the record as in a file. SU stands apart: it holds
 -- the numbers that the others are lent.
@@ -7,13 +7,14 @@
 -- allWords: a record as one list of words
 -- writeRules, writeCall, writeLeft: the table, the answer and the buffer of the call that writes a record
 -- listsRules, standingRules: the rules of a record as it stands in a file, up to its lists and all of them; readRules, readCall: the table and the answer of the call that reads it
--- markSU .. markPF: the marks, low byte first
+-- markSU .. markDZ: the marks, low byte first
 -- xWords, xSize, xAt, xFaults, xLayout, xValues: of record x its words, its length in bytes, its fields as they stand at the start of a part of a file
 -- (what follows the record is not looked at), the refusals that they give, its layout, and its fields as the values of an answer
 -- writeXRules .. readXLeft: the calls of record x; readMatrix is the second reader of SU
 -- dueSetup: the rules of SU up to its length
--- DealingParts, parts: all the fields of DL
--- dealingLent: the buffers lent for its g and h
+-- DealingParts, parts: all the fields of DL, and of DZ
+-- partsH: h as it stands behind g, of so many entries; partsLayoutOf: the layout that DL and DZ share, under a mark, with a length and so many entries of h
+-- dealingLent, zeroLent: the buffers lent for the g and h of DL, and of DZ
 -- MappedParts, mappedParts: all the fields of DF; mappedLent: the buffers lent for its g, h and φ
 -- pairLayoutOf: the layout that PV and PF share, under a mark
 -- paperSetupRead .. paperShareRead: document 01's number and values for each case of a reader's answer
@@ -111,6 +112,10 @@ markDF = 0x4644
 abbrev pub markPF : ℕ
 markPF = 0x4650
 
+-- "mark DZ (44 5A)"
+abbrev pub markDZ : ℕ
+markDZ = 0x5A44
+
 -- SU: "p, ℓ, e, n, then M by rows"
 abbrev pub setupWords : Setup → List ℕ
 setupWords S = markSU ∷ S .p ∷ S .l ∷ S .e ∷ S .n ∷ S .M
@@ -168,23 +173,29 @@ dealingAt s = record { dealing = wordAt s 1; holder = wordAt s 2 }
 abbrev pub dealingG : Setup → List ℕ → List ℕ
 dealingG S s = wordsAt s 3 (dim S)
 
+abbrev pub partsH : ℕ → Setup → List ℕ → List ℕ
+partsH k S s = wordsAt s (3 + dim S) k
+
 abbrev pub dealingH : Setup → List ℕ → List ℕ
-dealingH S s = wordsAt s (3 + dim S) (dim S)
+dealingH S s = partsH (dim S) S s
 
 -- "5: holder, column or position out of range"; "9: dealing number 0 outside SH"
 abbrev pub dealingFaults : Setup → DealingRecord → List Rule
 dealingFaults S x = (5 when leb (S .n) (x .holder)) ∷ (9 when eqb (x .dealing) 0) ∷ []
 
-abbrev pub dealingLayout : Layout DealingParts
-dealingLayout =
+abbrev pub partsLayoutOf : ℕ → (Setup → ℕ) → (Setup → ℕ) → Layout DealingParts
+partsLayoutOf mark size many =
     record {
-      mark = markDL;
-      size = dealingSize;
+      mark = mark;
+      size = size;
       words = λ x. x .numbers .dealing ∷ x .numbers .holder ∷ x .g ++ x .h;
-      at = λ S s. record { numbers = dealingAt s; g = dealingG S s; h = dealingH S s };
-      lists = λ S x. elements (x .g) (dim S) ∷ elements (x .h) (dim S) ∷ [];
+      at = λ S s. record { numbers = dealingAt s; g = dealingG S s; h = partsH (many S) S s };
+      lists = λ S x. elements (x .g) (dim S) ∷ elements (x .h) (many S) ∷ [];
       faults = λ S x. dealingFaults S (x .numbers);
     }
+
+abbrev pub dealingLayout : Layout DealingParts
+dealingLayout = partsLayoutOf markDL dealingSize (λ S. dim S)
 
 abbrev pub parts : DealingRecord → List ℕ → List ℕ → DealingParts
 parts x g h = record { numbers = x; g = g; h = h }
@@ -213,6 +224,41 @@ readDealingLeftG S s g h = leftBy (refusal (readDealingRules S s (length g) (len
 
 abbrev pub readDealingLeftH : Setup → List ℕ → List ℕ → List ℕ → List ℕ
 readDealingLeftH S s g h = leftBy (refusal (readDealingRules S s (length g) (length h))) (dealingH S s) h
+
+-- DZ: "only e random rows, e entries of h"; "mark DZ (44 5A) for DL"
+abbrev pub zeroSize : Setup → ℕ
+zeroSize S = 6 + 2 * (dim S + S .e)
+
+abbrev pub zeroH : Setup → List ℕ → List ℕ
+zeroH S s = partsH (S .e) S s
+
+abbrev pub zeroLayout : Layout DealingParts
+zeroLayout = partsLayoutOf markDZ zeroSize (λ S. S .e)
+
+abbrev pub zeroWords : DealingRecord → List ℕ → List ℕ → List ℕ
+zeroWords x g h = allWords zeroLayout (parts x g h)
+
+abbrev pub writeZeroCall : Setup → DealingRecord → List ℕ → List ℕ → List ℕ → Answer
+writeZeroCall S x g h out = writeCall zeroLayout S (parts x g h) out
+
+abbrev pub writeZeroLeft : Setup → DealingRecord → List ℕ → List ℕ → List ℕ → List ℕ
+writeZeroLeft S x g h out = writeLeft zeroLayout S (parts x g h) out
+
+-- its dealing number and holder, with g and h into lent buffers of d and e entries
+abbrev pub zeroLent : Setup → ℕ → ℕ → List Lent
+zeroLent S j k = room j (dim S) ∷ room k (S .e) ∷ []
+
+abbrev pub readZeroRules : Setup → List ℕ → ℕ → ℕ → List Rule
+readZeroRules S s j k = readRules zeroLayout S (zeroLent S j k) s
+
+abbrev pub readZeroCall : Setup → List ℕ → List ℕ → List ℕ → Answer
+readZeroCall S s g h = readCall zeroLayout S (zeroLent S (length g) (length h)) s (wordAt s 1 ∷ wordAt s 2 ∷ [])
+
+abbrev pub readZeroLeftG : Setup → List ℕ → List ℕ → List ℕ → List ℕ
+readZeroLeftG S s g h = leftBy (refusal (readZeroRules S s (length g) (length h))) (dealingG S s) g
+
+abbrev pub readZeroLeftH : Setup → List ℕ → List ℕ → List ℕ → List ℕ
+readZeroLeftH S s g h = leftBy (refusal (readZeroRules S s (length g) (length h))) (zeroH S s) h
 
 -- DF: "with the fields of DL and PV, carry the second dealing; DF ends with φ by rows"
 pub record MappedParts : Type 0 where
@@ -349,15 +395,15 @@ writeVerdictLeft S x out = writeLeft verdictLayout S x out
 abbrev pub readVerdictCall : Setup → List ℕ → Answer
 readVerdictCall S s = readCall verdictLayout S [] s (verdictValues (verdictAt s))
 
--- SH: "dealing number, holder, column, value"
+-- SH: "dealing number, holder, column, value"; "SH gains a last field, round, 0 to 65535, and one without it gets 3"
 abbrev pub shareSize : ℕ
-shareSize = 10
+shareSize = 12
 
 abbrev pub shareAt : List ℕ → ShareRecord
-shareAt s = record { dealing = wordAt s 1; holder = wordAt s 2; column = wordAt s 3; value = wordAt s 4 }
+shareAt s = record { dealing = wordAt s 1; holder = wordAt s 2; column = wordAt s 3; value = wordAt s 4; round = wordAt s 5 }
 
 abbrev pub shareValues : ShareRecord → List ℕ
-shareValues x = x .dealing ∷ x .holder ∷ x .column ∷ x .value ∷ []
+shareValues x = x .dealing ∷ x .holder ∷ x .column ∷ x .value ∷ x .round ∷ []
 
 -- "In SH, 0 marks a combination and its column is 0"; "5: SH with dealing 0 and a column other than 0"
 abbrev pub shareFaults : Setup → ShareRecord → List Rule

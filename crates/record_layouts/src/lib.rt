@@ -2,18 +2,18 @@
 // each call refuses, answers and leaves in its buffers, is said by specs/Records.antt.
 ghost use mathlib.Core.Path.{_≡_};
 ghost use mathlib.Core.Bool.{not};
-ghost use mathlib.Core.List.{[]};
+ghost use mathlib.Core.List.{[], _∷_};
 ghost use Prim.Native.Nat.{_+_, _*_, _≤_};
 ghost use lib.ListN.{length};
 ghost use lib.Seq.{sets};
 ghost use Rattle.base.specs.Rules.{orWhen, refusalFrom, refusal};
 ghost use Rattle.base.specs.Matrix.{allBelow};
-ghost use Rattle.scheme.specs.Setup.{setupOf};
-ghost use Rattle.scheme.specs.Calls.{table};
+ghost use Rattle.scheme.specs.Setup.{dim, setupOf};
+ghost use Rattle.scheme.specs.Calls.{room, table};
 ghost use Rattle.record_layouts.specs.Words.{bytes, wordAt, wordsAt};
 ghost use Rattle.record_layouts.specs.Records.{due, paramsAt, dealingAt, pairAt, verdictAt, shareAt, dealingFaults, pairFaults, verdictFaults, shareFaults};
-ghost use Rattle.record_layouts.specs.Records.{listsRules, standingRules, readSetupRules, readMatrixRules, dealingLayout, dealingLent, readDealingRules};
-ghost use Rattle.record_layouts.specs.Records.{mappedLayout, readMappedRules};
+ghost use Rattle.record_layouts.specs.Records.{listsRules, standingRules, readSetupRules, readMatrixRules, dealingLayout, readDealingRules};
+ghost use Rattle.record_layouts.specs.Records.{zeroLayout, readZeroRules, mappedLayout, readMappedRules};
 ghost use Rattle.record_layouts.specs.Inner.{listRules, partsRules};
 use scheme::Params;
 
@@ -33,7 +33,9 @@ pub const MARK_DF: u16 = 0x4644;
 
 pub const MARK_PF: u16 = 0x4650;
 
-// How many bytes SU, and DL and DF, have before their lists.
+pub const MARK_DZ: u16 = 0x5A44;
+
+// How many bytes SU, and DL, DZ and DF, have before their lists.
 pub const SETUP_HEAD: usize = 10;
 
 pub const DEALING_HEAD: usize = 6;
@@ -43,10 +45,10 @@ pub const PAIR_SIZE: usize = 10;
 
 pub const VERDICT_SIZE: usize = 8;
 
-pub const SHARE_SIZE: usize = 10;
+pub const SHARE_SIZE: usize = 12;
 
 // THE RECORDS
-// DL without g and h, and DF without g, h and φ.
+// DL and DZ without g and h, and DF without g, h and φ.
 pub struct DealingRecord {
     pub dealing: u16,
     pub holder: u16,
@@ -73,6 +75,7 @@ pub struct ShareRecord {
     pub holder: u16,
     pub column: u16,
     pub value: u16,
+    pub round: u16,
 }
 
 // What the readers give.
@@ -223,11 +226,13 @@ pub fn share_at(s: &[u8]) -> ShareRecord
     let holder = word(s, 2);
     let column = word(s, 3);
     let value = word(s, 4);
+    let round = word(s, 5);
     ShareRecord {
         dealing,
         holder,
         column,
         value,
+        round,
     }
 }
 
@@ -274,7 +279,7 @@ pub fn share_faults(standing: u16, s: Params, x: ShareRecord) -> u16
     }
 }
 
-// A RECORD AT THE START OF A PART OF A FILE: its mark and its length, and for SU, DL and DF all that refuses it.
+// A RECORD AT THE START OF A PART OF A FILE: its mark and its length, and for SU, DL, DZ and DF all that refuses it.
 pub fn or_due(standing: u16, s: &[u8], mark: u16, needed: usize) -> u16
     ensures { λ r. ⌜ r ≡ refusalFrom standing (due mark needed (now (s .entry))) ⌝ }
 {
@@ -328,27 +333,27 @@ pub fn map_len(s: Params) -> usize
     (s.l as usize) * (s.l as usize)
 }
 
-// DL's lists under a mark, and `more` elements behind them, as they stand in a file.
-fn lists_fault(s: Params, part: &[u8], mark: u16, more: usize) -> u16
-    requires { ⌜ more ≤ 4294836225 ⌝ }
-    ensures { λ r. ⌜ r ≡ refusal (listRules mark more (setupOf s []) (now (part .entry))) ⌝ }
+// g, h with `many` entries, and `more` elements behind them, under a mark, as they stand in a file.
+fn lists_fault(s: Params, part: &[u8], mark: u16, many: usize, more: usize) -> u16
+    requires { ⌜ (many ≤ 131070) × (more ≤ 4294836225) ⌝ }
+    ensures { λ r. ⌜ r ≡ refusal (listRules mark many more (setupOf s []) (now (part .entry))) ⌝ }
 {
     let d = s.dim();
-    let a = or_due(0, part, mark, DEALING_HEAD + 4 * d + 2 * more);
+    let a = or_due(0, part, mark, DEALING_HEAD + 2 * (d + many + more));
     if a != 0 {
         return a;
     }
     let b = or_words(0, part, 3, d, s.p);
-    let c = or_words(b, part, 3 + d, d, s.p);
-    or_words(c, part, 3 + 2 * d, more, s.p)
+    let c = or_words(b, part, 3 + d, many, s.p);
+    or_words(c, part, 3 + d + many, more, s.p)
 }
 
-// And then its two numbers.
-fn parts_fault(s: Params, part: &[u8], mark: u16, more: usize) -> u16
-    requires { ⌜ more ≤ 4294836225 ⌝ }
-    ensures { λ r. ⌜ r ≡ refusal (partsRules mark more (setupOf s []) (now (part .entry))) ⌝ }
+// And then the two numbers.
+fn parts_fault(s: Params, part: &[u8], mark: u16, many: usize, more: usize) -> u16
+    requires { ⌜ (many ≤ 131070) × (more ≤ 4294836225) ⌝ }
+    ensures { λ r. ⌜ r ≡ refusal (partsRules mark many more (setupOf s []) (now (part .entry))) ⌝ }
 {
-    let a = lists_fault(s, part, mark, more);
+    let a = lists_fault(s, part, mark, many, more);
     dealing_faults(a, s, dealing_at(part))
 }
 
@@ -356,49 +361,66 @@ fn parts_fault(s: Params, part: &[u8], mark: u16, more: usize) -> u16
 pub fn dealing_fault(s: Params, part: &[u8]) -> u16
     ensures { λ r. ⌜ r ≡ refusal (standingRules dealingLayout (setupOf s []) (now (part .entry))) ⌝ }
 {
-    parts_fault(s, part, MARK_DL, 0)
+    parts_fault(s, part, MARK_DL, s.dim(), 0)
+}
+
+// DZ, as it stands in a file.
+pub fn zero_fault(s: Params, part: &[u8]) -> u16
+    ensures { λ r. ⌜ r ≡ refusal (standingRules zeroLayout (setupOf s []) (now (part .entry))) ⌝ }
+{
+    parts_fault(s, part, MARK_DZ, s.e as usize, 0)
 }
 
 // DF, as it stands in a file.
 pub fn mapped_fault(s: Params, part: &[u8]) -> u16
     ensures { λ r. ⌜ r ≡ refusal (standingRules mappedLayout (setupOf s []) (now (part .entry))) ⌝ }
 {
-    parts_fault(s, part, MARK_DF, map_len(s))
+    parts_fault(s, part, MARK_DF, s.dim(), map_len(s))
 }
 
 // DF up to its lists, for a file that holds its two numbers against DL's.
 pub fn mapped_lists_fault(s: Params, part: &[u8]) -> u16
     ensures { λ r. ⌜ r ≡ refusal (listsRules mappedLayout (setupOf s []) (now (part .entry))) ⌝ }
 {
-    lists_fault(s, part, MARK_DF, map_len(s))
+    lists_fault(s, part, MARK_DF, s.dim(), map_len(s))
 }
 
-// The limits, and the buffers lent for g and h.
-fn parts_lent(s: Params, g_room: usize, h_room: usize) -> u16
-    ensures { λ r. ⌜ r ≡ refusal (table (setupOf s []) (dealingLent (setupOf s []) «g_room» «h_room») []) ⌝ }
+// The limits, and the buffers lent for g and for h, which has `many` entries.
+fn parts_lent(s: Params, g_room: usize, h_room: usize, many: usize) -> u16
+    ensures { λ r. ⌜ r ≡ refusal (table (setupOf s []) (room «g_room» (dim (setupOf s [])) ∷ room «h_room» many ∷ []) []) ⌝ }
 {
-    let d = s.dim();
     let a = scheme::limits_refusal(s);
-    let b = scheme::or_size(a, g_room, d);
-    scheme::or_size(b, h_room, d)
+    let b = scheme::or_size(a, g_room, s.dim());
+    scheme::or_size(b, h_room, many)
 }
 
 // DL, its g and h read into buffers of so many entries.
 pub fn dealing_refusal(s: Params, part: &[u8], g_room: usize, h_room: usize) -> u16
     ensures { λ r. ⌜ r ≡ refusal (readDealingRules (setupOf s []) (now (part .entry)) «g_room» «h_room») ⌝ }
 {
-    let a = parts_lent(s, g_room, h_room);
+    let a = parts_lent(s, g_room, h_room, s.dim());
     if a != 0 {
         return a;
     }
     dealing_fault(s, part)
 }
 
+// DZ, its g and h read into buffers of so many entries.
+pub fn zero_refusal(s: Params, part: &[u8], g_room: usize, h_room: usize) -> u16
+    ensures { λ r. ⌜ r ≡ refusal (readZeroRules (setupOf s []) (now (part .entry)) «g_room» «h_room») ⌝ }
+{
+    let a = parts_lent(s, g_room, h_room, s.e as usize);
+    if a != 0 {
+        return a;
+    }
+    zero_fault(s, part)
+}
+
 // DF, its g, h and φ read into buffers of so many entries.
 pub fn mapped_refusal(s: Params, part: &[u8], g_room: usize, h_room: usize, phi_room: usize) -> u16
     ensures { λ r. ⌜ r ≡ refusal (readMappedRules (setupOf s []) (now (part .entry)) «g_room» «h_room» «phi_room») ⌝ }
 {
-    let a = parts_lent(s, g_room, h_room);
+    let a = parts_lent(s, g_room, h_room, s.dim());
     let b = scheme::or_size(a, phi_room, map_len(s));
     if b != 0 {
         return b;

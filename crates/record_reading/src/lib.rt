@@ -2,12 +2,13 @@
 // is not looked at. What each refuses, answers and leaves in its buffers is said by record_layouts' specs/Records.antt.
 ghost use mathlib.Core.Path.{_≡_};
 ghost use mathlib.Core.List.{[]};
-ghost use Prim.Native.Nat.{_+_, _≤_};
+ghost use Prim.Native.Nat.{_+_, _*_, _≤_};
 ghost use lib.ListN.{length};
-ghost use Rattle.scheme.specs.Setup.{setupOf};
+ghost use Rattle.scheme.specs.Setup.{dim, setupOf};
 ghost use Rattle.scheme.specs.Answers.{paperWritten};
 ghost use Rattle.record_layouts.specs.Records.{readSetupCall, readMatrixCall, readMatrixLeft, readDealingCall, readDealingLeftG, readDealingLeftH};
-ghost use Rattle.record_layouts.specs.Records.{dealingSize, dealingG, dealingH, readMappedCall, readMappedLeftG, readMappedLeftH, readMappedLeftPhi};
+ghost use Rattle.record_layouts.specs.Records.{dealingG, partsH, readZeroCall, readZeroLeftG, readZeroLeftH};
+ghost use Rattle.record_layouts.specs.Records.{readMappedCall, readMappedLeftG, readMappedLeftH, readMappedLeftPhi};
 ghost use Rattle.record_layouts.specs.Records.{pairLayoutOf, pairAt, pairValues, readCall, readPairCall, readMappedPairCall, readVerdictCall, readShareCall};
 ghost use Rattle.record_layouts.specs.Records.{paperSetupRead, paperDealingRead, paperPairRead, paperVerdictRead, paperShareRead};
 use record_layouts::DealingRead;
@@ -49,11 +50,11 @@ pub fn read_setup_matrix(s: &[u8], matrix: &mut [u16]) -> Written
     Written::Done
 }
 
-// g and h of a DL or a DF.
+// g and h of a DL, a DZ or a DF; h as many entries as the lent buffer holds.
 fn get_parts(s: Params, part: &[u8], g: &mut [u16], h: &mut [u16])
-    requires { ⌜ (length (now g) ≡ s .l + s .e) × (length (now h) ≡ s .l + s .e) × (dealingSize (setupOf s []) ≤ length (now part)) ⌝ }
+    requires { ⌜ (length (now g) ≡ s .l + s .e) × (6 + 2 * (dim (setupOf s []) + length (now h)) ≤ length (now part)) ⌝ }
     ensures row { λ _. ⌜ now (g .exit) ≡ dealingG (setupOf s []) (now (part .entry)) ⌝ }
-    ensures column { λ _. ⌜ now (h .exit) ≡ dealingH (setupOf s []) (now (part .entry)) ⌝ }
+    ensures column { λ _. ⌜ now (h .exit) ≡ partsH (length (now (h .entry))) (setupOf s []) (now (part .entry)) ⌝ }
 {
     record_layouts::get_words(part, 3, g);
     record_layouts::get_words(part, 3 + s.dim(), h);
@@ -66,6 +67,20 @@ pub fn read_dealing(s: Params, part: &[u8], g: &mut [u16], h: &mut [u16]) -> Dea
     ensures column { λ _. ⌜ now (h .exit) ≡ readDealingLeftH (setupOf s []) (now (part .entry)) (now (g .entry)) (now (h .entry)) ⌝ }
 {
     let refusal = record_layouts::dealing_refusal(s, part, g.len(), h.len());
+    if refusal != 0 {
+        return DealingRead::Refused(refusal);
+    }
+    get_parts(s, part, g, h);
+    DealingRead::Is(record_layouts::dealing_at(part))
+}
+
+// The dealing number and the holder of a DZ; g and h go into lent buffers of d and e entries.
+pub fn read_zero_dealing(s: Params, part: &[u8], g: &mut [u16], h: &mut [u16]) -> DealingRead
+    ensures answer { λ r. ⌜ paperDealingRead r ≡ readZeroCall (setupOf s []) (now (part .entry)) (now (g .entry)) (now (h .entry)) ⌝ }
+    ensures row { λ _. ⌜ now (g .exit) ≡ readZeroLeftG (setupOf s []) (now (part .entry)) (now (g .entry)) (now (h .entry)) ⌝ }
+    ensures column { λ _. ⌜ now (h .exit) ≡ readZeroLeftH (setupOf s []) (now (part .entry)) (now (g .entry)) (now (h .entry)) ⌝ }
+{
+    let refusal = record_layouts::zero_refusal(s, part, g.len(), h.len());
     if refusal != 0 {
         return DealingRead::Refused(refusal);
     }

@@ -10,13 +10,15 @@ ghost use Rattle.scheme.specs.Setup.{dim, setupOf};
 ghost use Rattle.scheme.specs.Calls.{limits, size};
 ghost use Rattle.scheme.specs.Answers.{paperWritten};
 ghost use Rattle.record_layouts.specs.Words.{bytes};
-ghost use Rattle.record_layouts.specs.Records.{setupWords, writeSetupCall, writeSetupLeft, writeDealingCall, writeDealingLeft, mappedWords, writeMappedCall, writeMappedLeft};
+ghost use Rattle.record_layouts.specs.Records.{setupWords, writeSetupCall, writeSetupLeft, mappedWords, writeMappedCall, writeMappedLeft};
+ghost use Rattle.record_layouts.specs.Records.{parts, partsLayoutOf, writeDealingCall, writeDealingLeft, writeZeroCall, writeZeroLeft};
 ghost use Rattle.record_layouts.specs.Records.{pairLayoutOf, writeCall, writeLeft, writePairCall, writePairLeft, writeMappedPairCall, writeMappedPairLeft};
 ghost use Rattle.record_layouts.specs.Records.{writeVerdictCall, writeVerdictLeft, writeShareCall, writeShareLeft};
 use record_layouts::DEALING_HEAD;
 use record_layouts::DealingRecord;
 use record_layouts::MARK_DF;
 use record_layouts::MARK_DL;
+use record_layouts::MARK_DZ;
 use record_layouts::MARK_PF;
 use record_layouts::MARK_PV;
 use record_layouts::MARK_SH;
@@ -58,8 +60,8 @@ pub fn write_setup(s: Params, matrix: &[u16], out: &mut [u8]) -> Written
     Written::Done
 }
 
-// DL AND DF
-// The words that both begin with, under a mark.
+// DL, DZ AND DF
+// DL's words, under a mark.
 fn put_dealing(mark: u16, x: DealingRecord, g: &[u16], h: &[u16], out: &mut [u8])
     requires { ⌜ 2 * (3 + length (now g) + length (now h)) ≤ length (now out) ⌝ }
     ensures { λ _. ⌜ now (out .exit) ≡ sets (now (out .entry)) 0 (bytes (mark ∷ x .dealing ∷ x .holder ∷ now (g .entry) ++ now (h .entry))) ⌝ }
@@ -79,28 +81,65 @@ fn put_mapped(x: DealingRecord, g: &[u16], h: &[u16], phi: &[u16], out: &mut [u8
     record_layouts::put_words(out, 3 + g.len() + h.len(), phi);
 }
 
-// The limits, and the lengths of the buffer, of g and of h.
-fn lengths_refusal(s: Params, room: usize, needed: usize, g_len: usize, h_len: usize) -> u16
-    ensures { λ r. ⌜ r ≡ refusal (limits (setupOf s []) ++ size «room» «needed» ∷ size «g_len» (dim (setupOf s [])) ∷ size «h_len» (dim (setupOf s [])) ∷ []) ⌝ }
+// The limits, and the lengths of the buffer, of g and of h, which has `many` entries.
+fn lengths_refusal(
+    s: Params,
+    room: usize,
+    needed: usize,
+    g_len: usize,
+    h_len: usize,
+    many: usize,
+) -> u16
+    ensures { λ r. ⌜ r ≡ refusal (limits (setupOf s []) ++ size «room» «needed» ∷ size «g_len» (dim (setupOf s [])) ∷ size «h_len» many ∷ []) ⌝ }
 {
-    let d = s.dim();
     let a = scheme::or_size(scheme::limits_refusal(s), room, needed);
-    let b = scheme::or_size(a, g_len, d);
-    scheme::or_size(b, h_len, d)
+    let b = scheme::or_size(a, g_len, s.dim());
+    scheme::or_size(b, h_len, many)
+}
+
+// DL's fields, with `many` entries of h, under a mark.
+fn write_parts(
+    mark: u16,
+    many: usize,
+    s: Params,
+    x: DealingRecord,
+    g: &[u16],
+    h: &[u16],
+    out: &mut [u8],
+) -> Written
+    requires { ⌜ many ≤ 131070 ⌝ }
+    ensures answer { λ r. ⌜ paperWritten r ≡ writeCall (partsLayoutOf mark (λ S. 6 + 2 * (dim S + many)) (λ S. many)) (setupOf s []) (parts x (now (g .entry)) (now (h .entry))) (now (out .entry)) ⌝ }
+    ensures buffer { λ _. ⌜ now (out .exit) ≡ writeLeft (partsLayoutOf mark (λ S. 6 + 2 * (dim S + many)) (λ S. many)) (setupOf s []) (parts x (now (g .entry)) (now (h .entry))) (now (out .entry)) ⌝ }
+{
+    let needed = DEALING_HEAD + 2 * (s.dim() + many);
+    let c = lengths_refusal(s, out.len(), needed, g.len(), h.len(), many);
+    let e = scheme::or_elements(scheme::or_elements(c, s.p, g), s.p, h);
+    let refusal = record_layouts::dealing_faults(e, s, x);
+    if refusal != 0 {
+        return Written::Refused(refusal);
+    }
+    put_dealing(mark, x, g, h, out);
+    Written::Done
 }
 
 pub fn write_dealing(s: Params, x: DealingRecord, g: &[u16], h: &[u16], out: &mut [u8]) -> Written
     ensures answer { λ r. ⌜ paperWritten r ≡ writeDealingCall (setupOf s []) x (now (g .entry)) (now (h .entry)) (now (out .entry)) ⌝ }
     ensures buffer { λ _. ⌜ now (out .exit) ≡ writeDealingLeft (setupOf s []) x (now (g .entry)) (now (h .entry)) (now (out .entry)) ⌝ }
 {
-    let c = lengths_refusal(s, out.len(), DEALING_HEAD + 4 * s.dim(), g.len(), h.len());
-    let e = scheme::or_elements(scheme::or_elements(c, s.p, g), s.p, h);
-    let refusal = record_layouts::dealing_faults(e, s, x);
-    if refusal != 0 {
-        return Written::Refused(refusal);
-    }
-    put_dealing(MARK_DL, x, g, h, out);
-    Written::Done
+    write_parts(MARK_DL, s.dim(), s, x, g, h, out)
+}
+
+pub fn write_zero_dealing(
+    s: Params,
+    x: DealingRecord,
+    g: &[u16],
+    h: &[u16],
+    out: &mut [u8],
+) -> Written
+    ensures answer { λ r. ⌜ paperWritten r ≡ writeZeroCall (setupOf s []) x (now (g .entry)) (now (h .entry)) (now (out .entry)) ⌝ }
+    ensures buffer { λ _. ⌜ now (out .exit) ≡ writeZeroLeft (setupOf s []) x (now (g .entry)) (now (h .entry)) (now (out .entry)) ⌝ }
+{
+    write_parts(MARK_DZ, s.e as usize, s, x, g, h, out)
 }
 
 pub fn write_mapped_dealing(
@@ -115,13 +154,9 @@ pub fn write_mapped_dealing(
     ensures buffer { λ _. ⌜ now (out .exit) ≡ writeMappedLeft (setupOf s []) x (now (g .entry)) (now (h .entry)) (now (phi .entry)) (now (out .entry)) ⌝ }
 {
     let len = record_layouts::map_len(s);
-    let a = lengths_refusal(
-        s,
-        out.len(),
-        DEALING_HEAD + 4 * s.dim() + 2 * len,
-        g.len(),
-        h.len(),
-    );
+    let d = s.dim();
+    let needed = DEALING_HEAD + 4 * d + 2 * len;
+    let a = lengths_refusal(s, out.len(), needed, g.len(), h.len(), d);
     let b = scheme::or_size(a, phi.len(), len);
     let e = scheme::or_elements(scheme::or_elements(b, s.p, g), s.p, h);
     let refusal = record_layouts::dealing_faults(scheme::or_elements(e, s.p, phi), s, x);
@@ -187,7 +222,7 @@ pub fn write_share(s: Params, x: ShareRecord, out: &mut [u8]) -> Written
     if refusal != 0 {
         return Written::Refused(refusal);
     }
-    let all = [MARK_SH, x.dealing, x.holder, x.column, x.value];
+    let all = [MARK_SH, x.dealing, x.holder, x.column, x.value, x.round];
     record_layouts::put_words(out, 0, &all);
     Written::Done
 }

@@ -4,7 +4,7 @@ use mathlib.Core.Path.{_≡_, refl, sym, ap, _∙_}
 use mathlib.Core.Bool.{Bool, true, false, not, false≢true}
 use mathlib.Core.List.{List, [], _∷_}
 use mathlib.Core.Option.{Option, none, some, Option·none-ne-some}
-use Prim.Native.Nat.{ℕ, zero, suc, _*_, _/_, _%_, _≤_}
+use Prim.Native.Nat.{ℕ, zero, suc, _+_, _*_, _/_, _%_, _≤_}
 use native.Mathlib.Omega.{arith}
 use borrow.Author.Tests.{eqb-false, ne-eqb, not-true, not-false}
 use lib.Dec.{eqb, ltb}
@@ -23,12 +23,12 @@ use Rattle.scheme.specs.declared.Judgement.the-variants.{Accept, Reject,
 use Rattle.scheme.specs.declared.Fate.{Fate}
 use Rattle.scheme.specs.declared.Fate.the-variants.{Kept, Aborted}
 use Rattle.scheme.specs.Answers.{paperJudgement, paperFate, fair, disagree, isARow, isAVector, isNeither, yes, no, undetermined, inconsistent}
-use Rattle.scheme.specs.Dealing.{judgementOf, judgementMapped, fateOf, pairValue, disagrees, rehearse}
+use Rattle.scheme.specs.Dealing.{judgementOf, judgementMapped, judgementZero, fateOf, pairValue, disagrees, rehearse}
 use Rattle.scheme.specs.Sets.{holds, members, hasRow, hasSweep, rowSteps, kind, determines, isPrivate}
-use Rattle.scheme.specs.Opening.{gives, opening, openedBy, combine}
-use Rattle.scheme.specs.Calls.{decide, pointsRules, dealRules, dealAllRules, dealMappedRules, dealMappedAllRules, pairValueRules, judgeRules, judgeMappedRules, outcomeRules, rehearseRules, setRules, judgeSetRules, openRules, openCall, combineRules}
+use Rattle.scheme.specs.Opening.{gives, opening, openedBy, combine, roundOf, agree, refresh}
+use Rattle.scheme.specs.Calls.{decide, pointsRules, dealRules, dealAllRules, dealMappedRules, dealMappedAllRules, dealZeroRules, dealZeroAllRules, pairValueRules, judgeRules, judgeMappedRules, judgeZeroRules, outcomeRules, rehearseRules, setRules, judgeSetRules, openRules, openCall, combineRules, refreshRules}
 use Rattle.scheme.specs.Answering.{AllLowest, Marked, AllMarked, Answers, Behind, OpenAnswers, Answering}
-use Rattle.scheme.proofs.Calls.{points-accepts, deal-accepts, dealAll-accepts, dealMapped-accepts, dealMappedAll-accepts, pairValue-accepts, judge-accepts, judgeMapped-accepts, outcome-accepts, rehearse-accepts, set-accepts, judgeSet-accepts, open-accepts, combine-accepts}
+use Rattle.scheme.proofs.Calls.{points-accepts, deal-accepts, dealAll-accepts, dealMapped-accepts, dealMappedAll-accepts, dealZero-accepts, dealZeroAll-accepts, pairValue-accepts, judge-accepts, judgeMapped-accepts, judgeZero-accepts, outcome-accepts, rehearse-accepts, set-accepts, judgeSet-accepts, open-accepts, combine-accepts, refresh-accepts}
 use Rattle.scheme.proofs.Certificates.{by-search, undetermined-in-hand}
 
 is-false : (b : Bool) → (b ≡ true → ⊥) → b ≡ false
@@ -112,15 +112,19 @@ all-lowest =
       deal-all = λ S secrets random gs hs. lowest (dealAllRules S secrets random gs hs) tt;
       deal-mapped = λ S secrets random phi random2 i B. lowest (dealMappedRules S secrets random phi random2 i B) tt;
       deal-mapped-all = λ S secrets random phi random2 B. lowest (dealMappedAllRules S secrets random phi random2 B) tt;
+      deal-zero = λ S random i g h. lowest (dealZeroRules S random i g h) tt;
+      deal-zero-all = λ S random gs hs. lowest (dealZeroAllRules S random gs hs) tt;
       pair-value = λ S g i. lowest (pairValueRules S g i) tt;
       judge = λ S h values. lowest (judgeRules S h values) tt;
       judge-mapped = λ S h values phi h2 values2. lowest (judgeMappedRules S h values phi h2 values2) tt;
+      judge-zero = λ S h values. lowest (judgeZeroRules S h values) tt;
       outcome = λ S g verdicts out. lowest (outcomeRules S g verdicts out) tt;
       rehearse = λ S gs hs. lowest (rehearseRules S gs hs) tt;
       set = λ S s. lowest (setRules S s) tt;
       judge-set = λ S s q out. lowest (judgeSetRules S s q out) tt;
-      opening = λ S s xs out. lowest (openRules S s xs out) tt;
-      combine = λ p cs xs. lowest (combineRules p cs xs) tt;
+      opening = λ S s xs rs out. lowest (openRules S s xs rs out) tt;
+      combine = λ p cs xs rs. lowest (combineRules p cs xs rs) tt;
+      refresh = λ p x round z. lowest (refreshRules p x round z) tt;
     }
 
 -- THE MARK
@@ -148,17 +152,21 @@ all-marked =
       deal-all = λ S secrets random gs hs. marked-by (refusal (dealAllRules S secrets random gs hs)) (given []) refl;
       deal-mapped = λ S secrets random phi random2 i B. marked-by (refusal (dealMappedRules S secrets random phi random2 i B)) (given []) refl;
       deal-mapped-all = λ S secrets random phi random2 B. marked-by (refusal (dealMappedAllRules S secrets random phi random2 B)) (given []) refl;
+      deal-zero = λ S random i g h. marked-by (refusal (dealZeroRules S random i g h)) (given []) refl;
+      deal-zero-all = λ S random gs hs. marked-by (refusal (dealZeroAllRules S random gs hs)) (given []) refl;
       pair-value = λ S g i. marked-by (refusal (pairValueRules S g i)) (given (pairValue S g i ∷ [])) refl;
       judge = λ S h values. marked-by (refusal (judgeRules S h values)) _ (marked-given _ (judgement-given (judgementOf S h values)));
       judge-mapped = λ S h values phi h2 values2.
           marked-by (refusal (judgeMappedRules S h values phi h2 values2)) _ (marked-given _ (judgement-given (judgementMapped S h values phi h2 values2)));
+      judge-zero = λ S h values. marked-by (refusal (judgeZeroRules S h values)) _ (marked-given _ (judgement-given (judgementZero S h values)));
       outcome = λ S g verdicts out. marked-by (refusal (outcomeRules S g verdicts out)) _ (marked-given _ (fate-given (fateOf S verdicts)));
       rehearse = λ S gs hs. marked-by (refusal (rehearseRules S gs hs)) _ (marked-given _ (rehearse-given S gs hs));
       determines = λ S s. marked-by (refusal (setRules S s)) _ (marked-given _ (decide-given (determines S (holds s))));
       private = λ S s. marked-by (refusal (setRules S s)) _ (marked-given _ (decide-given (isPrivate S (holds s))));
       judge-set = λ S s q out. marked-by (refusal (judgeSetRules S s q out)) _ (marked-given _ (kind-given S (holds s) q));
-      opening = λ S s xs out. marked-by (refusal (openRules S s xs out)) _ (opening-marked S s xs);
-      combine = λ p cs xs. marked-by (refusal (combineRules p cs xs)) (given (combine p cs xs ∷ [])) refl;
+      opening = λ S s xs rs out. marked-by (refusal (openRules S s xs rs out)) _ (opening-marked S s xs);
+      combine = λ p cs xs rs. marked-by (refusal (combineRules p cs xs rs)) (given (combine p cs xs ∷ roundOf rs ∷ [])) refl;
+      refresh = λ p x round z. marked-by (refusal (refreshRules p x round z)) (given (refresh p x z ∷ (round + 1) ∷ [])) refl;
     }
 
 -- INPUTS THAT BREAK NOTHING
@@ -166,14 +174,14 @@ answers-by : (r : ℕ) (a : Answer) → r ≡ 0 → Given a → Answers (answerB
 unfolding Given
 answers-by r a e g = rw e (ap (λ (x : Answer). x .answered) g)
 
-open-answers : (S : Setup) (s : ℕ) (xs out : List ℕ) → refusal (openRules S s xs out) ≡ 0 → OpenAnswers S s xs out
-open-answers S s xs out fine = go (opening-is S s xs)
+open-answers : (S : Setup) (s : ℕ) (xs rs out : List ℕ) → refusal (openRules S s xs rs out) ≡ 0 → OpenAnswers S s xs rs out
+open-answers S s xs rs out fine = go (opening-is S s xs)
   where
     -- the call gives the opening's own answer
-    is : (a : Answer) → opening S (holds s) xs ≡ a → (openCall S s xs out .answered ≡ a .answered) × (openCall S s xs out .number ≡ a .number)
+    is : (a : Answer) → opening S (holds s) xs ≡ a → (openCall S s xs rs out .answered ≡ a .answered) × (openCall S s xs rs out .number ≡ a .number)
     is a e = rw (fine, e) (refl, refl)
 
-    go : OpeningIs S s xs → OpenAnswers S s xs out
+    go : OpeningIs S s xs → OpenAnswers S s xs rs out
     go (secrets d b vs e) =
         let r = is (given vs) e in
         record {
@@ -210,6 +218,10 @@ answering =
       deal-mapped-all = λ S secrets random phi random2 B ok v r m w z.
           answers-by (refusal (dealMappedAllRules S secrets random phi random2 B)) _
           (dealMappedAll-accepts S secrets random phi random2 B (record { first = record { setup = ok; vectors = v; entries = r }; map = m; entries = w }) z) (given-given []);
+      deal-zero = λ S random i g h ok v l a b.
+          answers-by (refusal (dealZeroRules S random i g h)) _ (dealZero-accepts S random i g h (record { setup = ok; entries = v }) a b l) (given-given []);
+      deal-zero-all = λ S random gs hs ok v a b.
+          answers-by (refusal (dealZeroAllRules S random gs hs)) _ (dealZeroAll-accepts S random gs hs (record { setup = ok; entries = v }) a b) (given-given []);
       pair-value = λ S g i ok v l.
           answers-by (refusal (pairValueRules S g i)) _ (pairValue-accepts S g i (record { setup = ok; part = v; to = l })) (given-given _);
       judge = λ S h values ok v r.
@@ -218,6 +230,8 @@ answering =
           answers-by (refusal (judgeMappedRules S h values phi h2 values2)) _
           (judgeMapped-accepts S h values phi h2 values2 (record { first = record { setup = ok; part = v; received = r }; map = m; second = record { setup = ok; part = w; received = s } }))
           (judgement-given (judgementMapped S h values phi h2 values2));
+      judge-zero = λ S h values ok v r.
+          answers-by (refusal (judgeZeroRules S h values)) _ (judgeZero-accepts S h values (record { setup = ok; part = v; received = r })) (judgement-given (judgementZero S h values));
       outcome = λ S g verdicts out L v w room.
           answers-by (refusal (outcomeRules S g verdicts out)) _ (outcome-accepts S g verdicts out (record { limits = L; part = v; heard = w; room = room })) (fate-given (fateOf S verdicts));
       rehearse = λ S gs hs ok v w.
@@ -226,10 +240,14 @@ answering =
       private = λ S s ok l. answers-by (refusal (setRules S s)) _ (set-accepts S s (record { setup = ok; inside = l })) (decide-given (isPrivate S (holds s)));
       judge-set = λ S s q out ok l m room.
           answers-by (refusal (judgeSetRules S s q out)) _ (judgeSet-accepts S s q out (record { setup = ok; inside = l }) room m) (kind-given S (holds s) q);
-      opening = λ S s xs out ok l v room. open-answers S s xs out (open-accepts S s xs out (record { setup = ok; inside = l }) v room);
-      combine = λ p k cs xs f few v w. answers-by (refusal (combineRules p cs xs)) _ (combined p k cs xs f few v w) (given-given _);
+      opening = λ S s xs rs out ok l v r q room. open-answers S s xs rs out (open-accepts S s xs rs out (record { setup = ok; inside = l }) v r q room);
+      combine = λ p k cs xs rs f few v w r q. answers-by (refusal (combineRules p cs xs rs)) _ (combined p k cs xs rs f few v w r q) (given-given _);
+      refresh = λ p x round z f a b l.
+          answers-by (refusal (refreshRules p x round z)) _ (refresh-accepts p x round z (record { field = f; old = a; zero = b; next = l })) (given-given _);
     }
   where
-    combined : (p k : ℕ) (cs xs : List ℕ) → isField p ≡ true → k ≤ 64 → Vec p k cs → Vec p k xs → refusal (combineRules p cs xs) ≡ 0
-    combined p k cs xs f few v w =
-        combine-accepts p cs xs (record { field = f; constants = rw (v .size) v; shares = rw (v .size) w; few = omega (arith, v .size) })
+    combined : (p k : ℕ) (cs xs rs : List ℕ) → isField p ≡ true → k ≤ 64 → Vec p k cs → Vec p k xs → length rs ≡ k → agree rs ≡ true
+        → refusal (combineRules p cs xs rs) ≡ 0
+    combined p k cs xs rs f few v w r q =
+        combine-accepts p cs xs rs
+        (record { field = f; constants = rw (v .size) v; shares = rw (v .size) w; rounds = r ∙ sym (v .size); few = omega (arith, v .size); one-round = q })

@@ -22,8 +22,9 @@ use Rattle.field.proofs.Fields.{field-prime}
 use Rattle.scheme.specs.Setup.{Setup, dim, Limits, IsSetup}
 use Rattle.scheme.specs.Answers.{yes}
 use Rattle.scheme.specs.Sets.{holds, members, determines}
+use Rattle.scheme.specs.Opening.{agree}
 use Rattle.scheme.specs.Answering.{Sized}
-use Rattle.scheme.specs.Calls.{outside, limits, Lent, elements, room, beyondField, sizes, inField, table, matrix, dealLent, beyond, Buffers, dealMappedLent, pointsRules, dealRules, dealAllRules, dealMappedRules, dealMappedAllRules, pairValueRules, judgeRules, judgeMappedRules, outcomeRules, rehearseRules, setRules, decide, determinesCall, judgeSetRules, openRules, combineRules}
+use Rattle.scheme.specs.Calls.{outside, limits, Lent, elements, room, beyondField, sizes, inField, table, matrix, dealLent, beyond, Buffers, dealMappedLent, pointsRules, dealRules, dealAllRules, dealMappedRules, dealMappedAllRules, dealZeroRules, dealZeroAllRules, pairValueRules, judgeRules, judgeMappedRules, judgeZeroRules, outcomeRules, rehearseRules, setRules, decide, determinesCall, judgeSetRules, apart, openRules, combineRules, refreshRules}
 use Rattle.scheme.proofs.Members.{members-wide}
 
 -- REFUSALS 1 TO 4, each test and its fact
@@ -251,6 +252,44 @@ module _ (S : Setup) (secrets random phi random2 : List ℕ) (B : Buffers) where
       → refusal (dealMappedAllRules S secrets random phi random2 B) ≡ 0
   dealMappedAll-accepts ok z = mapped-accepts (S .n * dim S) [] ok z tt
 
+-- DEAL ZERO
+pub record DealZeroOk (S : Setup) (random : List ℕ) : Type 0 where
+  pub setup : IsSetup S
+  pub entries : Vec (S .p) (S .e * dim S) random
+
+module _ (S : Setup) (random : List ℕ) where
+  -- with buffers that have a and b entries and need j and k
+  abbrev dealZero-lent : (j k a b : ℕ) → List Lent
+  dealZero-lent j k a b = matrix S ∷ elements random (S .e * dim S) ∷ room a j ∷ room b k ∷ []
+
+  zero-ok : (j k a b : ℕ) (own : List Rule) → T (positive own) → refusal (table S (dealZero-lent j k a b) own) ≡ 0
+      → DealZeroOk S random × (a ≡ j) × (b ≡ k) × Clear own
+  zero-ok j k a b own t e =
+      let r = in-order S (dealZero-lent j k a b) own t e in
+      let v = r .lent in
+      (record { setup = record { limits = r .limits; matrix = v .0 }; entries = v .1 .0 }, v .1 .1 .0, v .1 .1 .1 .0, r .own)
+
+  zero-accepts : (j k a b : ℕ) (own : List Rule) → DealZeroOk S random → a ≡ j → b ≡ k → Clear own → refusal (table S (dealZero-lent j k a b) own) ≡ 0
+  zero-accepts j k a b own ok x y c = accepts S (dealZero-lent j k a b) own (ok .setup .limits) (ok .setup .matrix, (ok .entries, (x, (y, tt)))) c
+
+  pub dealZero-ok : (i : ℕ) (g h : List ℕ) → refusal (dealZeroRules S random i g h) ≡ 0
+      → DealZeroOk S random × (length g ≡ dim S) × (length h ≡ S .e) × (i < S .n)
+  dealZero-ok i g h e =
+      let r = zero-ok (dim S) (S .e) (length g) (length h) ((5 when leb (S .n) i) ∷ []) tt e in
+      (r .0, r .1, r .2, leb-false (S .n) i (r .3 .0))
+
+  pub dealZero-accepts : (i : ℕ) (g h : List ℕ) → DealZeroOk S random → length g ≡ dim S → length h ≡ S .e → i < S .n
+      → refusal (dealZeroRules S random i g h) ≡ 0
+  dealZero-accepts i g h ok a b l = zero-accepts (dim S) (S .e) (length g) (length h) ((5 when leb (S .n) i) ∷ []) ok a b (lt-leb (S .n) i l, tt)
+
+  pub dealZeroAll-ok : (gs hs : List ℕ) → refusal (dealZeroAllRules S random gs hs) ≡ 0
+      → DealZeroOk S random × (length gs ≡ S .n * dim S) × (length hs ≡ S .n * S .e)
+  dealZeroAll-ok gs hs e = let r = zero-ok (S .n * dim S) (S .n * S .e) (length gs) (length hs) [] tt e in (r .0, r .1, r .2)
+
+  pub dealZeroAll-accepts : (gs hs : List ℕ) → DealZeroOk S random → length gs ≡ S .n * dim S → length hs ≡ S .n * S .e
+      → refusal (dealZeroAllRules S random gs hs) ≡ 0
+  dealZeroAll-accepts gs hs ok a b = zero-accepts (S .n * dim S) (S .n * S .e) (length gs) (length hs) [] ok a b tt
+
 -- PAIR VALUE
 pub record PairValueOk (S : Setup) (g : List ℕ) (i : ℕ) : Type 0 where
   pub setup : IsSetup S
@@ -315,6 +354,24 @@ module _ (S : Setup) (h values phi h2 values2 : List ℕ) where
       let a = k .first in
       let b = k .second in
       accepts S judgeMapped-lent [] (a .setup .limits) (a .setup .matrix, (a .part, (a .received, (k .map, (b .part, (b .received, tt)))))) tt
+
+-- JUDGE ZERO
+pub record JudgeZeroOk (S : Setup) (h values : List ℕ) : Type 0 where
+  pub setup : IsSetup S
+  pub part : Vec (S .p) (S .e) h
+  pub received : Vec (S .p) (S .n) values
+
+module _ (S : Setup) (h values : List ℕ) where
+  abbrev judgeZero-lent : List Lent
+  judgeZero-lent = matrix S ∷ elements h (S .e) ∷ elements values (S .n) ∷ []
+
+  pub judgeZero-ok : refusal (judgeZeroRules S h values) ≡ 0 → JudgeZeroOk S h values
+  judgeZero-ok e =
+      let r = in-order S judgeZero-lent [] tt e in
+      record { setup = record { limits = r .limits; matrix = r .lent .0 }; part = r .lent .1 .0; received = r .lent .1 .1 .0 }
+
+  pub judgeZero-accepts : JudgeZeroOk S h values → refusal (judgeZeroRules S h values) ≡ 0
+  judgeZero-accepts k = accepts S judgeZero-lent [] (k .setup .limits) (k .setup .matrix, (k .part, (k .received, tt))) tt
 
 -- OUTCOME
 pub record OutcomeOk (S : Setup) (g verdicts out : List ℕ) : Type 0 where
@@ -404,70 +461,118 @@ module _ (S : Setup) (s q : ℕ) (out : List ℕ) where
       (lt-leb (2 ^ S .n) s (k .inside), (lt-leb (S .l) q l, tt))
 
 -- OPEN
-pub record OpenOk (S : Setup) (s : ℕ) (xs out : List ℕ) : Type 0 where
+pub record OpenOk (S : Setup) (s : ℕ) (xs rs out : List ℕ) : Type 0 where
   pub set : SetOk S s
   pub shares : Vec (S .p) (length (members 32 (holds s))) xs
+  pub rounds : length rs ≡ length (members 32 (holds s))
   pub room : length out ≡ S .l
+  pub one-round : agree rs ≡ true
 
-module _ (S : Setup) (s : ℕ) (xs out : List ℕ) where
+module _ (S : Setup) (s : ℕ) (xs rs out : List ℕ) where
   abbrev open-lent : List Lent
-  open-lent = matrix S ∷ elements xs (length (members 32 (holds s))) ∷ room (length out) (S .l) ∷ []
+  open-lent =
+      matrix S ∷ elements xs (length (members 32 (holds s))) ∷ room (length rs) (length (members 32 (holds s))) ∷ room (length out) (S .l) ∷ []
 
   abbrev open-own : List Rule
-  open-own = (5 when beyond (S .n) s) ∷ []
+  open-own = (5 when beyond (S .n) s) ∷ apart rs ∷ []
 
-  pub open-ok : refusal (openRules S s xs out) ≡ 0 → OpenOk S s xs out
+  pub open-ok : refusal (openRules S s xs rs out) ≡ 0 → OpenOk S s xs rs out
   open-ok e =
       let r = in-order S open-lent open-own tt e in
       record {
         set = record { setup = record { limits = r .limits; matrix = r .lent .0 }; inside = leb-false (2 ^ S .n) s (r .own .0) };
         shares = r .lent .1 .0;
-        room = r .lent .1 .1 .0;
+        rounds = r .lent .1 .1 .0;
+        room = r .lent .1 .1 .1 .0;
+        one-round = not-false (agree rs) (r .own .1 .0);
       }
 
-  -- all but the shares' elements in order: the refusal is 4 exactly where some share is no field element
-  pub open-by-shares : SetOk S s → length xs ≡ length (members 32 (holds s)) → length out ≡ S .l
-      → refusal (openRules S s xs out) ≡ pick (allBelow (S .p) xs) 0 4
-  open-by-shares k a b =
-      by-own S (matrix S ∷ room (length xs) (length (members 32 (holds s))) ∷ room (length out) (S .l) ∷ []) (beyondField (S .p) xs ∷ open-own) (k .setup .limits)
-      (k .setup .matrix, (a, (b, tt)))
-      ∙ rw (lt-leb (2 ^ S .n) s (k .inside)) (last (allBelow (S .p) xs))
+  -- all but the shares' elements and their rounds in order: the refusal is 4 where some share is no field element, and else 19 where the rounds differ
+  pub open-by-shares : SetOk S s → length xs ≡ length (members 32 (holds s)) → length rs ≡ length (members 32 (holds s)) → length out ≡ S .l
+      → refusal (openRules S s xs rs out) ≡ pick (allBelow (S .p) xs) (pick (agree rs) 0 19) 4
+  open-by-shares k a r b =
+      by-own S
+      (matrix S ∷ room (length xs) (length (members 32 (holds s))) ∷ room (length rs) (length (members 32 (holds s))) ∷ room (length out) (S .l) ∷ [])
+      (beyondField (S .p) xs ∷ open-own) (k .setup .limits)
+      (k .setup .matrix, (a, (r, (b, tt))))
+      ∙ rw (lt-leb (2 ^ S .n) s (k .inside)) (last (allBelow (S .p) xs) (agree rs))
     where
-      last : (b : Bool) → refusal ((4 when not b) ∷ (5 when false) ∷ []) ≡ pick b 0 4
-      last true = refl
-      last false = refl
+      last : (b c : Bool) → refusal ((4 when not b) ∷ (5 when false) ∷ (19 when not c) ∷ []) ≡ pick b (pick c 0 19) 4
+      last true true = refl
+      last true false = refl
+      last false c = refl
 
-  pub open-accepts : SetOk S s → Vec (S .p) (length (members (S .n) (holds s))) xs → length out ≡ S .l → refusal (openRules S s xs out) ≡ 0
-  open-accepts k v b =
-      open-by-shares k (v .size ∙ ap length (sym (members-wide (S .n) 32 s (k .inside) (k .setup .limits .holders .1)))) b
-      ∙ rw (below-is (S .p) xs (λ i m. v .small i (omega (arith, v .size)))) refl
+  pub open-accepts : SetOk S s → Vec (S .p) (length (members (S .n) (holds s))) xs → length rs ≡ length xs → agree rs ≡ true → length out ≡ S .l
+      → refusal (openRules S s xs rs out) ≡ 0
+  open-accepts k v r q b =
+      let wide = v .size ∙ ap length (sym (members-wide (S .n) 32 s (k .inside) (k .setup .limits .holders .1))) in
+      open-by-shares k wide (r ∙ wide) b
+      ∙ rw (below-is (S .p) xs (λ i m. v .small i (omega (arith, v .size))), q) refl
 
 -- COMBINE
-pub record CombineOk (p : ℕ) (cs xs : List ℕ) : Type 0 where
+pub record CombineOk (p : ℕ) (cs xs rs : List ℕ) : Type 0 where
   pub field : isField p ≡ true
   pub constants : Vec p (length cs) cs
   pub shares : Vec p (length cs) xs
+  pub rounds : length rs ≡ length cs
   pub few : length cs ≤ 64
+  pub one-round : agree rs ≡ true
 
-module _ (p : ℕ) (cs xs : List ℕ) where
-  pub combine-ok : refusal (combineRules p cs xs) ≡ 0 → CombineOk p cs xs
+module _ (p : ℕ) (cs xs rs : List ℕ) where
+  pub combine-ok : refusal (combineRules p cs xs rs) ≡ 0 → CombineOk p cs xs rs
   combine-ok e =
-      let c = clear (combineRules p cs xs) tt e in
+      let c = clear (combineRules p cs xs rs) tt e in
       let f : isField p ≡ true = not-false (isField p) (c .0) in
       let pos : 0 < p = omega (arith, field-prime p f .big) in
+      let v = c .1 .1 .1 .1 in
       record {
         field = f;
-        constants = vec-of p _ cs pos refl (c .1 .1 .1 .0);
-        shares = vec-of p _ xs pos (size-is (length xs) (length cs) (c .1 .0)) (c .1 .1 .1 .1 .0);
-        few = ltb-false 64 (length cs) (c .1 .1 .0);
+        constants = vec-of p _ cs pos refl (v .0);
+        shares = vec-of p _ xs pos (size-is (length xs) (length cs) (c .1 .0)) (v .1 .0);
+        rounds = size-is (length rs) (length cs) (c .1 .1 .0);
+        few = ltb-false 64 (length cs) (c .1 .1 .1 .0);
+        one-round = not-false (agree rs) (v .1 .1 .0);
       }
 
-  pub combine-accepts : CombineOk p cs xs → refusal (combineRules p cs xs) ≡ 0
-  combine-accepts k =
-      none-applies (combineRules p cs xs) (
-        ap not (k .field),
-        (
-          size-clear (length xs) (length cs) (k .shares .size),
-          (le-ltb 64 (length cs) (k .few), (elements-clear p _ cs (k .constants), (elements-clear p _ xs (k .shares), tt))),
-        ),
-      )
+  -- all but the rounds in order: 19 exactly where they differ
+  pub combine-by-rounds : isField p ≡ true → Vec p (length cs) cs → Vec p (length cs) xs → length rs ≡ length cs → length cs ≤ 64
+      → refusal (combineRules p cs xs rs) ≡ pick (agree rs) 0 19
+  combine-by-rounds f v w r few =
+      rw (
+        f,
+        eq-eqb (length xs) (length cs) (w .size),
+        eq-eqb (length rs) (length cs) r,
+        le-ltb 64 (length cs) few,
+        elements-clear p _ cs v,
+        elements-clear p _ xs w,
+      ) (last (agree rs))
+    where
+      last : (b : Bool) → refusal ((19 when not b) ∷ []) ≡ pick b 0 19
+      last true = refl
+      last false = refl
+
+  pub combine-accepts : CombineOk p cs xs rs → refusal (combineRules p cs xs rs) ≡ 0
+  combine-accepts k = combine-by-rounds (k .field) (k .constants) (k .shares) (k .rounds) (k .few) ∙ rw (k .one-round) refl
+
+-- REFRESH
+pub record RefreshOk (p x round z : ℕ) : Type 0 where
+  pub field : isField p ≡ true
+  pub old : x < p
+  pub zero : z < p
+  pub next : round < 65535
+
+module _ (p x round z : ℕ) where
+  pub refresh-ok : refusal (refreshRules p x round z) ≡ 0 → RefreshOk p x round z
+  refresh-ok e =
+      let c = clear (refreshRules p x round z) tt e in
+      record {
+        field = not-false (isField p) (c .0);
+        old = leb-false p x (c .1 .0);
+        zero = leb-false p z (c .1 .1 .0);
+        next = leb-false 65535 round (c .1 .1 .1 .0);
+      }
+
+  pub refresh-accepts : RefreshOk p x round z → refusal (refreshRules p x round z) ≡ 0
+  refresh-accepts k =
+      none-applies (refreshRules p x round z)
+      (ap not (k .field), (lt-leb p x (k .old), (lt-leb p z (k .zero), (lt-leb 65535 round (k .next), tt))))

@@ -4,12 +4,13 @@ use mathlib.Core.Path.{_≡_, refl}
 use mathlib.Core.List.{List, [], _∷_, _++_, map}
 use mathlib.Core.Option.{Option·getD}
 use Prim.Native.Nat.{ℕ}
+use lib.ListN.{length, replicate}
 use Rattle.base.specs.Choice.{pick}
 use Rattle.base.specs.Rules.{Answer}
 use Rattle.base.specs.Sum.{sum, bit, unit}
 use Rattle.base.specs.Search.{every, first, firstFrom, firstOf, firstVec}
 use Rattle.base.specs.Fill.{tab, tabFrom}
-use Rattle.base.specs.Matrix.{allBelow}
+use Rattle.base.specs.Matrix.{allBelow, allAre}
 use Rattle.field.specs.Prime.{inverseOf}
 use Rattle.field.specs.Fields.{isField}
 use Rattle.field.specs.Dot.{dot}
@@ -36,8 +37,9 @@ h i = dealLeftH ex (3 ∷ []) (1 ∷ 5 ∷ 2 ∷ []) i (0 ∷ 0 ∷ []) (0 ∷ 0
 abbrev pub line : Answer → List ℕ
 line a = pick (a .answered) 1 0 ∷ a .number ∷ a .values
 
+-- the shares at round 0 all
 abbrev pub opens : ℕ → List ℕ → List ℕ
-opens s xs = line (openCall ex s xs (0 ∷ [])) ++ openLeft ex s xs (0 ∷ [])
+opens s xs = let rs : List ℕ = replicate {A = ℕ} (length xs) 0 in line (openCall ex s xs rs (0 ∷ [])) ++ openLeft ex s xs rs (0 ∷ [])
 
 pub record Case : Type 0 where
   pub gives : List ℕ
@@ -64,5 +66,5 @@ table =
     ∷ []
 
 pub cases : map (λ (c : Case). c .gives) table ≡ map (λ (c : Case). c .wanted) table
-unfolding sum bit unit every first firstFrom firstOf firstVec tab tabFrom allBelow inverseOf isField dot point lagrange basis minus pointsMatrix place dealtEntry dealt partG partH pairValue expected members membersFrom isRow findRow hasRow dependent isOneRow oneRow isSweep findSweep determines gives opening combine
+unfolding sum bit unit every first firstFrom firstOf firstVec tab tabFrom allBelow allAre inverseOf isField dot point lagrange basis minus pointsMatrix place dealtEntry dealt partG partH pairValue expected members membersFrom isRow findRow hasRow dependent isOneRow oneRow isSweep findSweep determines gives opening combine
 cases = refl

@@ -1,4 +1,5 @@
 pub mod Calls
+pub mod Rounds
 pub mod Points
 pub mod Verdicts
 pub mod Members
@@ -9,7 +10,9 @@ pub mod NoColumns
 pub mod Grows
 pub mod Cases
 mod Supplier
+pub mod Zero
 mod MapCases
+mod RoundCases
 mod SetRows
 pub mod PointSets
 pub mod Interpolated

@@ -15,6 +15,8 @@ use Rattle.scheme.specs.declared.Written.{Written}
 use Rattle.scheme.specs.declared.Written.the-variants.{Done, Refused}
 use Rattle.scheme.specs.declared.Value.{Value}
 use Rattle.scheme.specs.declared.Value.the-variants as value
+use Rattle.scheme.specs.declared.Share.{Share}
+use Rattle.scheme.specs.declared.Share.the-variants as share
 use Rattle.scheme.specs.declared.Judgement.{Judgement}
 use Rattle.scheme.specs.declared.Judgement.the-variants.{Accept, Reject, RejectMap}
 use Rattle.scheme.specs.declared.Judged.{Judged}
@@ -82,6 +84,11 @@ paperWritten (Refused k) = refused k
 abbrev pub paperValue : Value → Answer
 paperValue (value.Is x) = given (x ∷ [])
 paperValue (value.Refused k) = refused k
+
+-- a share as its value and its round
+abbrev pub paperShare : Share → Answer
+paperShare (share.Is x round) = given (x ∷ round ∷ [])
+paperShare (share.Refused k) = refused k
 
 abbrev pub paperJudgement : Judgement → Answer
 paperJudgement Accept = accepts

@@ -6,7 +6,7 @@
 -- table: the one shape of a table: the limits, the lengths of all that is lent, the elements of all that is taken, then the call's own rules
 -- matrix: the setup's matrix, lent; setupRules: the limits and the length of a matrix, with which many tables begin
 -- xRules, xCall, xLeft: the table, the answer and the buffer of call x
--- toAll: every holder's part, one after the other
+-- toEach, toAll: a list of k entries for every holder, one after the other; every holder's part
 -- Buffers, buffers: four lent buffers, for a holder's part and its second part, or for those of all
 use mathlib.Core.Path.{_≡_}
 use mathlib.Core.Bool.{Bool, true, not, _||_}
@@ -25,9 +25,9 @@ use Rattle.field.specs.Dot.{at}
 use Rattle.scheme.specs.Setup.{Setup, dim}
 use Rattle.scheme.specs.Points.{pointsMatrix}
 use Rattle.scheme.specs.Answers.{yes, no, isARow, isAVector, isNeither}
-use Rattle.scheme.specs.Dealing.{dealt, partG, partH, pairValue, judge, outcome, isKept, shares, rehearse, dealtMapped, judgeMapped}
+use Rattle.scheme.specs.Dealing.{dealt, partG, partH, pairValue, judge, outcome, isKept, shares, rehearse, dealtMapped, judgeMapped, dealtZero, partZeroH, judgeZero}
 use Rattle.scheme.specs.Sets.{holds, members, oneRow, isSweep, rowSteps, kind, determines, isPrivate}
-use Rattle.scheme.specs.Opening.{opening, combine}
+use Rattle.scheme.specs.Opening.{opening, combine, roundOf, agree, refresh}
 
 -- "1: p is none of the five"; "2: ℓ, e or n beyond its limits"
 abbrev pub outside : ℕ → ℕ → ℕ → Bool
@@ -94,8 +94,11 @@ abbrev pub dealLeftH : Setup → List ℕ → List ℕ → ℕ → List ℕ → 
 dealLeftH S secrets random i g h = leftBy (refusal (dealRules S secrets random i g h)) (partH S (dealt S secrets random) i) h
 
 -- DEAL TO ALL: every holder's g, one after the other, and every holder's h
+abbrev pub toEach : ℕ → Setup → (ℕ → List ℕ) → List ℕ
+toEach k S list = tab (S .n * k) (flat k (λ i. at (list i)))
+
 abbrev pub toAll : Setup → (ℕ → List ℕ) → List ℕ
-toAll S part = tab (S .n * dim S) (flat (dim S) (λ i. at (part i)))
+toAll S part = toEach (dim S) S part
 
 abbrev pub dealAllRules : Setup → List ℕ → List ℕ → List ℕ → List ℕ → List Rule
 dealAllRules S secrets random gs hs =
@@ -166,6 +169,34 @@ dealMappedAllLeft S secrets random phi random2 B =
       h2 = leftBy k (toAll S (partH S F2)) (B .h2);
     }
 
+-- DEAL ZERO (document 02, A8) to one holder, into the lent g of d entries and h of e; the lent random entries are e rows of d
+abbrev pub dealZeroRules : Setup → List ℕ → ℕ → List ℕ → List ℕ → List Rule
+dealZeroRules S random i g h =
+    table S (matrix S ∷ elements random (S .e * dim S) ∷ room (length g) (dim S) ∷ room (length h) (S .e) ∷ []) ((5 when leb (S .n) i) ∷ [])
+
+abbrev pub dealZeroCall : Setup → List ℕ → ℕ → List ℕ → List ℕ → Answer
+dealZeroCall S random i g h = answerBy (refusal (dealZeroRules S random i g h)) (given [])
+
+abbrev pub dealZeroLeftG : Setup → List ℕ → ℕ → List ℕ → List ℕ → List ℕ
+dealZeroLeftG S random i g h = leftBy (refusal (dealZeroRules S random i g h)) (partG S (dealtZero S random) i) g
+
+abbrev pub dealZeroLeftH : Setup → List ℕ → ℕ → List ℕ → List ℕ → List ℕ
+dealZeroLeftH S random i g h = leftBy (refusal (dealZeroRules S random i g h)) (partZeroH S (dealtZero S random) i) h
+
+-- the same to all
+abbrev pub dealZeroAllRules : Setup → (random gs hs : List ℕ) → List Rule
+dealZeroAllRules S random gs hs =
+    table S (matrix S ∷ elements random (S .e * dim S) ∷ room (length gs) (S .n * dim S) ∷ room (length hs) (S .n * S .e) ∷ []) []
+
+abbrev pub dealZeroAllCall : Setup → (random gs hs : List ℕ) → Answer
+dealZeroAllCall S random gs hs = answerBy (refusal (dealZeroAllRules S random gs hs)) (given [])
+
+abbrev pub dealZeroAllLeftG : Setup → (random gs hs : List ℕ) → List ℕ
+dealZeroAllLeftG S random gs hs = leftBy (refusal (dealZeroAllRules S random gs hs)) (toAll S (partG S (dealtZero S random))) gs
+
+abbrev pub dealZeroAllLeftH : Setup → (random gs hs : List ℕ) → List ℕ
+dealZeroAllLeftH S random gs hs = leftBy (refusal (dealZeroAllRules S random gs hs)) (toEach (S .e) S (partZeroH S (dealtZero S random))) hs
+
 -- PAIR VALUE of the holder with row part g, for holder i
 abbrev pub pairValueRules : Setup → List ℕ → ℕ → List Rule
 pairValueRules S g i = table S (matrix S ∷ elements g (dim S) ∷ []) ((5 when leb (S .n) i) ∷ [])
@@ -187,6 +218,13 @@ judgeMappedRules S h values phi h2 values2 =
 
 abbrev pub judgeMappedCall : Setup → (h values phi h2 values2 : List ℕ) → Answer
 judgeMappedCall S h values phi h2 values2 = answerBy (refusal (judgeMappedRules S h values phi h2 values2)) (judgeMapped S h values phi h2 values2)
+
+-- JUDGE ZERO (document 02, A8), on the column part h of e entries and the n values received
+abbrev pub judgeZeroRules : Setup → List ℕ → List ℕ → List Rule
+judgeZeroRules S h values = table S (matrix S ∷ elements h (S .e) ∷ elements values (S .n) ∷ []) []
+
+abbrev pub judgeZeroCall : Setup → List ℕ → List ℕ → Answer
+judgeZeroCall S h values = answerBy (refusal (judgeZeroRules S h values)) (judgeZero S h values)
 
 -- OUTCOME, on the row part g and the n verdicts received, into ℓ lent shares; it needs no matrix. "12: verdict neither 0 nor 1"
 abbrev pub outcomeRules : Setup → List ℕ → List ℕ → List ℕ → List Rule
@@ -239,27 +277,40 @@ pub data JudgeSetLeft (S : Setup) (X : ℕ → Bool) (q : ℕ) : Answer → List
       → JudgeSetLeft S X q (isAVector (rowSteps S X q)) (w ++ replicate (32 - length w) 0)
   of-neither : JudgeSetLeft S X q (isNeither (rowSteps S X q)) (replicate 32 0)
 
--- OPEN, by the set s and its shares by rising holder, into ℓ lent secrets
-abbrev pub openRules : Setup → ℕ → List ℕ → List ℕ → List Rule
-openRules S s xs out =
-    table S (matrix S ∷ elements xs (length (members 32 (holds s))) ∷ room (length out) (S .l) ∷ []) ((5 when beyond (S .n) s) ∷ [])
+-- ROUNDS (document 02, A8). "19, rounds that differ"; "18, refreshing round 65535", which is the last; "both after 5 and before 6"
+abbrev pub apart : List ℕ → Rule
+apart rs = 19 when not (agree rs)
+
+-- OPEN, by the set s, its shares by rising holder and their rounds, into ℓ lent secrets
+abbrev pub openRules : Setup → ℕ → (xs rs out : List ℕ) → List Rule
+openRules S s xs rs out =
+    let k = length (members 32 (holds s)) in
+    table S (matrix S ∷ elements xs k ∷ room (length rs) k ∷ room (length out) (S .l) ∷ []) ((5 when beyond (S .n) s) ∷ apart rs ∷ [])
 
 -- the secrets stand in the buffer; refusals 6 and 7 are the opening's own
 abbrev pub openAnswer : Answer → Answer
 openAnswer a = record { answered = a .answered; number = a .number; values = pick (eqb (a .number) 0) [] (a .values) }
 
-abbrev pub openCall : Setup → ℕ → List ℕ → List ℕ → Answer
-openCall S s xs out = answerBy (refusal (openRules S s xs out)) (openAnswer (opening S (holds s) xs))
+abbrev pub openCall : Setup → ℕ → (xs rs out : List ℕ) → Answer
+openCall S s xs rs out = answerBy (refusal (openRules S s xs rs out)) (openAnswer (opening S (holds s) xs))
 
-abbrev pub openLeft : Setup → ℕ → List ℕ → List ℕ → List ℕ
-openLeft S s xs out =
-    leftBy (refusal (openRules S s xs out)) (leftBy (opening S (holds s) xs .number) (opening S (holds s) xs .values) out) out
+abbrev pub openLeft : Setup → ℕ → (xs rs out : List ℕ) → List ℕ
+openLeft S s xs rs out =
+    leftBy (refusal (openRules S s xs rs out)) (leftBy (opening S (holds s) xs .number) (opening S (holds s) xs .values) out) out
 
--- COMBINE. "3: a lent length isn't the one needed, over 64 terms". Two empty lists are as long as each other, and so are taken (NoColumns.antt).
-abbrev pub combineRules : ℕ → List ℕ → List ℕ → List Rule
-combineRules p cs xs =
-    (1 when not (isField p)) ∷ size (length xs) (length cs) ∷ (3 when ltb 64 (length cs))
-    ∷ beyondField p cs ∷ beyondField p xs ∷ []
+-- COMBINE constants, one holder's shares and their rounds, to a share and its round. "3: a lent length isn't the one needed, over 64 terms". Empty lists are as
+-- long as each other, and so are taken (NoColumns.antt).
+abbrev pub combineRules : ℕ → (cs xs rs : List ℕ) → List Rule
+combineRules p cs xs rs =
+    (1 when not (isField p)) ∷ size (length xs) (length cs) ∷ size (length rs) (length cs) ∷ (3 when ltb 64 (length cs))
+    ∷ beyondField p cs ∷ beyondField p xs ∷ apart rs ∷ []
 
-abbrev pub combineCall : ℕ → List ℕ → List ℕ → Answer
-combineCall p cs xs = answerBy (refusal (combineRules p cs xs)) (given (combine p cs xs ∷ []))
+abbrev pub combineCall : ℕ → (cs xs rs : List ℕ) → Answer
+combineCall p cs xs rs = answerBy (refusal (combineRules p cs xs rs)) (given (combine p cs xs ∷ roundOf rs ∷ []))
+
+-- REFRESH. "A refresh takes the old share with its round, and of the zero share the value alone"
+abbrev pub refreshRules : ℕ → (x round z : ℕ) → List Rule
+refreshRules p x round z = (1 when not (isField p)) ∷ (4 when leb p x) ∷ (4 when leb p z) ∷ (18 when leb 65535 round) ∷ []
+
+abbrev pub refreshCall : ℕ → (x round z : ℕ) → Answer
+refreshCall p x round z = answerBy (refusal (refreshRules p x round z)) (given (refresh p x z ∷ (round + 1) ∷ []))

@@ -1,5 +1,5 @@
 -- Dealing and judging (document 01, "Dealing and judging", steps 1 to 5; source document 000, figure 3), and two dealings tied by a public map (document
--- 02, A7; source document 000, figure 4).
+-- 02, A7; source document 000, figure 4), and a dealing of zeros (document 02, A8; source document 000, figure 5).
 -- place: where the entry of F in row k and column b stands in the lent random list
 -- dealt: F by rows, from the secret vectors and the lent random entries
 -- partG, partH: holder i's part
@@ -13,6 +13,9 @@
 -- differsIn: the value from j differs in either dealing
 -- mapHolds: the first ℓ entries of the second h are the map of those of the first
 -- judgementMapped: a holder's judgement of both dealings; judgeMapped: as document 01 has it
+-- dealtZero: the F of a zero dealing by rows, from its lent random entries
+-- partZeroH: holder i's column part of a zero dealing; its row part is partG
+-- expectedZero, differsZero, judgementZero, judgeZero: the judgement of a zero dealing, in the same way
 use mathlib.Core.Bool.{Bool, not, _&&_, _||_}
 use mathlib.Core.List.{List}
 use Prim.Native.Nat.{ℕ, _+_, _-_, _*_, _/_, _%_}
@@ -128,3 +131,27 @@ judgementMapped S h values phi h2 values2 =
 
 abbrev pub judgeMapped : Setup → List ℕ → List ℕ → List ℕ → List ℕ → List ℕ → Answer
 judgeMapped S h values phi h2 values2 = paperJudgement (judgementMapped S h values phi h2 values2)
+
+-- A ZERO DEALING (document 02, A8). "only e random rows": the first ℓ rows of F are 0, and the others are lent, row by row
+unfoldable pub zeroEntry : Setup → List ℕ → ℕ → ℕ → ℕ
+zeroEntry S random k b = pick (ltb k (S .l)) 0 (at random ((k - S .l) * dim S + b))
+
+unfoldable pub dealtZero : Setup → List ℕ → List ℕ
+dealtZero S random = tab (dim S * dim S) (flat (dim S) (zeroEntry S random))
+
+-- "e entries of h": the last e of F m_i; those before them are 0 and are not sent
+unfoldable pub partZeroH : Setup → List ℕ → ℕ → List ℕ
+partZeroH S F i = tab (S .e) (λ k. at (partH S F i) (S .l + k))
+
+-- "checked against the last e entries of each row"
+unfoldable pub expectedZero : Setup → List ℕ → ℕ → ℕ
+expectedZero S h j = dot (S .e) (λ k. row S j (S .l + k)) (at h) % S .p
+
+unfoldable pub differsZero : Setup → List ℕ → List ℕ → ℕ → Bool
+differsZero S h values j = not (eqb (at values j) (expectedZero S h j))
+
+unfoldable pub judgementZero : Setup → List ℕ → List ℕ → Judgement
+judgementZero S h values = let j = first (differsZero S h values) (S .n) in pick (ltb j (S .n)) (Reject j) Accept
+
+abbrev pub judgeZero : Setup → List ℕ → List ℕ → Answer
+judgeZero S h values = paperJudgement (judgementZero S h values)

@@ -14,14 +14,16 @@ use Rattle.scheme.specs.Sets.{holds, members}
 use Rattle.scheme.specs.Calls.{determinesCall, openCall, openLeft, combineCall}
 
 pub record NoColumns : Type 0 where
-  -- "Two empty lists now give the share 0, whichever holder asks": the call is not told who asks
-  pub share : (p : ℕ) → isField p ≡ true → combineCall p [] [] ≡ given (0 ∷ [])
+  -- "Two empty lists now give the share 0, whichever holder asks": the call is not told who asks; A8's "the empty one round 0"
+  pub share : (p : ℕ) → isField p ≡ true → combineCall p [] [] [] ≡ given (0 ∷ 0 ∷ [])
   -- "One empty list beside a filled one stays refusal 3"
-  pub no-constants : (p x : ℕ) (xs : List ℕ) → isField p ≡ true → combineCall p [] (x ∷ xs) ≡ refused 3
-  pub no-shares : (p c : ℕ) (cs : List ℕ) → isField p ≡ true → combineCall p (c ∷ cs) [] ≡ refused 3
+  pub no-constants : (p x : ℕ) (xs rs : List ℕ) → isField p ≡ true → combineCall p [] (x ∷ xs) rs ≡ refused 3
+  pub no-shares : (p c : ℕ) (cs rs : List ℕ) → isField p ≡ true → combineCall p (c ∷ cs) [] rs ≡ refused 3
+  -- and no rounds beside them
+  pub no-rounds : (p r : ℕ) (rs : List ℕ) → isField p ≡ true → combineCall p [] [] (r ∷ rs) ≡ refused 3
   -- document 01's "1: p is none of the five"
-  pub no-field : (p : ℕ) → isField p ≡ false → combineCall p [] [] ≡ refused 1
+  pub no-field : (p : ℕ) → isField p ≡ false → combineCall p [] [] [] ≡ refused 1
   -- "and opening it by a set that determines the secrets gives all zeros": every member hands in what its combination of no shares gives
-  pub opens : (S : Setup) (s : ℕ) (handed out : List ℕ) → determinesCall S s ≡ yes → length handed ≡ length (members (S .n) (holds s))
-      → ((a : ℕ) → a < length handed → combineCall (S .p) [] [] ≡ given (at handed a ∷ [])) → length out ≡ S .l
-      → (openCall S s handed out ≡ given []) × (openLeft S s handed out ≡ replicate (S .l) 0)
+  pub opens : (S : Setup) (s : ℕ) (handed rounds out : List ℕ) → determinesCall S s ≡ yes → length handed ≡ length (members (S .n) (holds s))
+      → length rounds ≡ length handed → ((a : ℕ) → a < length handed → combineCall (S .p) [] [] [] ≡ given (at handed a ∷ at rounds a ∷ []))
+      → length out ≡ S .l → (openCall S s handed rounds out ≡ given []) × (openLeft S s handed rounds out ≡ replicate (S .l) 0)

@@ -1,16 +1,19 @@
--- Openings and combinations (document 01, "Sets and openings").
+-- Openings and combinations (document 01, "Sets and openings"), and the rounds of shares (document 02, A8).
 -- gives: the vector v gives every share, the shares by rising holder
 -- opening: the secrets as values, or refusal 6 with the lowest position that has no row, or refusal 7
 -- combine: the sum of the products of constants and shares
+-- roundOf: the round of shares that are combined; agree: their rounds are one
+-- refresh: an old share and a zero share of the same column as one share
 use mathlib.Core.Bool.{Bool, not}
-use mathlib.Core.List.{List}
+use mathlib.Core.List.{List, [], _∷_}
 use mathlib.Core.Option.{Option, none, some}
-use Prim.Native.Nat.{ℕ, _%_}
+use Prim.Native.Nat.{ℕ, _+_, _%_}
 use lib.Dec.{eqb, ltb}
 use lib.ListN.{length, take}
 use Rattle.base.specs.Choice.{pick}
 use Rattle.base.specs.Rules.{Answer, given}
 use Rattle.base.specs.Search.{every, first, firstVec}
+use Rattle.base.specs.Matrix.{allAre}
 use Rattle.field.specs.Dot.{at, dot}
 use Rattle.scheme.specs.Setup.{Setup, dim}
 use Rattle.scheme.specs.Answers.{undetermined, inconsistent}
@@ -34,3 +37,16 @@ opening S X xs =
 -- "A combination takes constants and one holder's shares .. and gives the sum of their products"; the sum of none is 0
 unfoldable pub combine : ℕ → List ℕ → List ℕ → ℕ
 combine p cs xs = dot (length cs) (at cs) (at xs) % p
+
+-- ROUNDS (document 02, A8). "a combination has the round of its shares, the empty one round 0"
+abbrev pub roundOf : List ℕ → ℕ
+roundOf [] = 0
+roundOf (r ∷ rs) = r
+
+-- "Shares combined or opened together come with their rounds, which must agree"
+abbrev pub agree : List ℕ → Bool
+agree rs = allAre (roundOf rs) rs
+
+-- "Adding its column b to a dealing's column b moves those shares to the next round"
+unfoldable pub refresh : ℕ → ℕ → ℕ → ℕ
+refresh p x z = (x + z) % p

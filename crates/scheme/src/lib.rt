@@ -9,6 +9,7 @@ ghost use Rattle.base.specs.Rules.{orWhen, refusal};
 ghost use Rattle.base.specs.Matrix.{allBelow};
 ghost use Rattle.scheme.specs.Setup.{setupOf};
 ghost use Rattle.scheme.specs.Answers.{paperWritten};
+ghost use Rattle.scheme.specs.Opening.{roundOf, agree};
 ghost use Rattle.scheme.specs.Calls.{outside, limits, setupRules};
 
 // The numbers of a setup; the matrix is lent beside them.
@@ -44,6 +45,12 @@ pub enum Written {
 // A call that gives one field element.
 pub enum Value {
     Is(u16),
+    Refused(u16),
+}
+
+// A call that gives a share: its value and its round.
+pub enum Share {
+    Is(u16, u16),
     Refused(u16),
 }
 
@@ -153,6 +160,24 @@ pub fn or_elements(standing: u16, p: u16, s: &[u16]) -> u16
     ensures { λ r. ⌜ r ≡ orWhen standing 4 (not (allBelow p (now (s .entry)))) ⌝ }
 {
     base::or_when(standing, 4, !base::all_below(s, p))
+}
+
+// The round of shares that are combined; of none it is 0.
+pub fn round_of(rounds: &[u16]) -> u16
+    ensures { λ r. ⌜ r ≡ roundOf (now (rounds .entry)) ⌝ }
+{
+    if rounds.len() == 0 {
+        return 0;
+    }
+    rounds[0]
+}
+
+// Refusal 19: the rounds differ.
+pub fn or_rounds(standing: u16, rounds: &[u16]) -> u16
+    ensures { λ r. ⌜ r ≡ orWhen standing 19 (not (agree (now (rounds .entry)))) ⌝ }
+{
+    let round = round_of(rounds);
+    base::or_when(standing, 19, !base::all_are(rounds, round))
 }
 
 // The limits and the length of a matrix, with which the calls on a matrix begin.

@@ -48,13 +48,14 @@ module _ (S : Setup) (s : ℕ) (xs : List ℕ) (P : Prime (S .p)) where
       go (by-six d k e) = absurd (omega (arith, sym z ∙ ap (λ (a : Answer). a .number) e))
       go (by-seven d b e) = absurd (omega (arith, sym z ∙ ap (λ (a : Answer). a .number) e))
 
-pub call-applied : (S : Setup) (s : ℕ) (xs out : List ℕ) → openCall S s xs out .number ≡ 0 → (q : ℕ) → q < S .l → Applied S (holds s) q xs (openLeft S s xs out)
-call-applied S s xs out z q l = go (refusal (openRules S s xs out)) refl z
+pub call-applied : (S : Setup) (s : ℕ) (xs rs out : List ℕ) → openCall S s xs rs out .number ≡ 0 → (q : ℕ) → q < S .l
+    → Applied S (holds s) q xs (openLeft S s xs rs out)
+call-applied S s xs rs out z q l = go (refusal (openRules S s xs rs out)) refl z
   where
     a : Answer
     a = opening S (holds s) xs
 
-    go : (r : ℕ) → refusal (openRules S s xs out) ≡ r → answerBy r (openAnswer a) .number ≡ 0
+    go : (r : ℕ) → refusal (openRules S s xs rs out) ≡ r → answerBy r (openAnswer a) .number ≡ 0
         → Applied S (holds s) q xs (leftBy r (leftBy (a .number) (a .values) out) out)
-    go zero e h = rw h (opening-applied S s xs (limits-prime S (open-ok S s xs out e .set .setup .limits)) h q l)
+    go zero e h = rw h (opening-applied S s xs (limits-prime S (open-ok S s xs rs out e .set .setup .limits)) h q l)
     go (suc r) e h = absurd (omega arith)

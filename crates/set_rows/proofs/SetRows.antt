@@ -9,7 +9,7 @@ use Rattle.base.specs.Rules.{Answer, refusal, answerBy}
 use Rattle.base.specs.Sum.{sum, bit, unit}
 use Rattle.base.specs.Search.{every, first, firstFrom, firstOf, firstVec}
 use Rattle.base.specs.Fill.{tab, tabFrom}
-use Rattle.base.specs.Matrix.{allBelow}
+use Rattle.base.specs.Matrix.{allBelow, allAre}
 use Rattle.base.proofs.Choice.{picked}
 use Rattle.field.specs.Prime.{inverseOf}
 use Rattle.field.specs.Fields.{isField}
@@ -72,5 +72,5 @@ unfolding members membersFrom
 the-steps = set-rows .reached ex on-points (holds 7) 0
 
 the-opening : Applied ex (holds 7) 0 (0 ∷ 2 ∷ 4 ∷ []) (3 ∷ [])
-unfolding sum bit unit every first firstFrom firstOf firstVec allBelow isField dot members membersFrom isRow findRow hasRow determines gives opening
-the-opening = set-rows .opened-call ex 7 (0 ∷ 2 ∷ 4 ∷ []) (0 ∷ []) refl 0 (omega arith)
+unfolding sum bit unit every first firstFrom firstOf firstVec allBelow allAre isField dot members membersFrom isRow findRow hasRow determines gives opening
+the-opening = set-rows .opened-call ex 7 (0 ∷ 2 ∷ 4 ∷ []) (5 ∷ 5 ∷ 5 ∷ []) (0 ∷ []) refl 0 (omega arith)

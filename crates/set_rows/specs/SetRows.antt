@@ -39,7 +39,8 @@ pub record SetRows : Type 0 where
   pub bounded : (S : Setup) (X : ℕ → Bool) (q : ℕ) → rowSteps S X q ≤ min (length (members (S .n) X)) (dim S) * (dim S - 1)
   -- "and a points matrix reaches that number for every set"
   pub reached : (S : Setup) → OnPoints S → (X : ℕ → Bool) (q : ℕ) → rowSteps S X q ≡ min (length (members (S .n) X)) (dim S) * (dim S - 1)
-  -- "Openings follow": of every opening that is not refused, by its definition and by the call, whatever it is handed
+  -- "Openings follow": of every opening that is not refused, by its definition and by the call, whatever it is handed, in every round
   pub opened : (S : Setup) (s : ℕ) (xs : List ℕ) → Prime (S .p) → opening S (holds s) xs .number ≡ 0 → (q : ℕ) → q < S .l
       → Applied S (holds s) q xs (opening S (holds s) xs .values)
-  pub opened-call : (S : Setup) (s : ℕ) (xs out : List ℕ) → openCall S s xs out .number ≡ 0 → (q : ℕ) → q < S .l → Applied S (holds s) q xs (openLeft S s xs out)
+  pub opened-call : (S : Setup) (s : ℕ) (xs rs out : List ℕ) → openCall S s xs rs out .number ≡ 0 → (q : ℕ) → q < S .l
+      → Applied S (holds s) q xs (openLeft S s xs rs out)

@@ -1,4 +1,5 @@
-// Document 01's cases, worked by the compiled calls: a line for each, its words and then what the call gave.
+// Document 01's cases, and a zero dealing with its refresh on the same example, worked by the compiled calls: a line for each, its words and then what the
+// call gave.
 use libc::STDOUT_FILENO;
 use scheme::Decided;
 use scheme::Fate;
@@ -9,6 +10,7 @@ use scheme::Params;
 use scheme::Rehearsal;
 use scheme::SetJudged;
 use scheme::Settled;
+use scheme::Share;
 use scheme::Value;
 use scheme::Written;
 
@@ -48,6 +50,18 @@ fn value(answer: Value) {
     match answer {
         Value::Is(x) => number(x),
         Value::Refused(k) => refused(k),
+    }
+    say(b"\n");
+}
+
+fn shared(answer: Share) {
+    match answer {
+        Share::Is(x, round) => {
+            number(x);
+            say(b", round");
+            number(round);
+        },
+        Share::Refused(k) => refused(k),
     }
     say(b"\n");
 }
@@ -256,20 +270,26 @@ fn outcome(a: u16, b: u16, c: u16) {
     settled(answer, share[0]);
 }
 
-// Twice a share.
-fn twice(share: u16) {
-    say(b"twice");
-    number(share);
+// A combination of one holder's shares, which come with their rounds.
+fn combine(constants: &[u16], shares: &[u16], rounds: &[u16]) {
+    say(b"constants");
+    numbers(constants);
+    say(b" and shares");
+    numbers(shares);
+    say(b", rounds");
+    numbers(rounds);
     say(b":");
-    value(opening::combine(7, &[2], &[share]));
+    shared(opening::combine(7, constants, shares, rounds));
 }
 
-// An opening by a set of the example's holders that hands in these shares.
-fn open(set: u16, shares: &[u16]) {
+// An opening by a set of the example's holders that hands in these shares of these rounds.
+fn open(set: u16, shares: &[u16], rounds: &[u16]) {
     say(b"set");
     number(set);
     say(b" opens");
     numbers(shares);
+    say(b", rounds");
+    numbers(rounds);
     say(b":");
     let mut secret = [9u16; 1];
     let answer = opening::open(
@@ -277,9 +297,64 @@ fn open(set: u16, shares: &[u16]) {
         &[6, 2, 5, 3, 4, 4],
         set as u32,
         shares,
+        rounds,
         &mut secret,
     );
     opened(answer, secret[0]);
+}
+
+// The parts of a zero dealing, F rows (0, 0), (2, 5).
+fn zero_parts(holder: u16) {
+    say(b"zeros, g and h of holder");
+    number(holder);
+    let mut g = [9u16; 2];
+    let mut h = [9u16; 1];
+    let answer = zero_dealing::deal_zero(
+        example(),
+        &[6, 2, 5, 3, 4, 4],
+        &[2, 5],
+        holder,
+        &mut g,
+        &mut h,
+    );
+    written(answer, &[g[0], g[1], h[0]]);
+}
+
+// All its parts in one call.
+fn all_zero_parts() {
+    let mut gs = [9u16; 6];
+    let mut hs = [9u16; 3];
+    let answer = zero_dealing::deal_zero_all(
+        example(),
+        &[6, 2, 5, 3, 4, 4],
+        &[2, 5],
+        &mut gs,
+        &mut hs,
+    );
+    say(b"zeros, g of all");
+    written(answer, &gs);
+    say(b"zeros, h of all");
+    written(answer, &hs);
+}
+
+// The judgement of holder 1 on these values of the zero dealing.
+fn judge_zero(a: u16, b: u16, c: u16) {
+    say(b"zeros, holder 1 judges");
+    numbers(&[a, b, c]);
+    say(b":");
+    judged(zero_dealing::judge_zero(example(), &[6, 2, 5, 3, 4, 4], &[4], &[a, b, c]));
+}
+
+// A share of a round refreshed by a zero share.
+fn refresh(share: u16, round: u16, zero: u16) {
+    say(b"share");
+    number(share);
+    say(b", round");
+    number(round);
+    say(b", and zero share");
+    number(zero);
+    say(b":");
+    shared(opening::refresh(7, share, round, zero));
 }
 
 // What a set is on the example's matrix.
@@ -316,7 +391,7 @@ fn neither(position: u16) {
     set_judged(answer, &found);
 }
 
-fn main() {
+fn dealings() {
     points();
     parts(3, 0);
     parts(3, 1);
@@ -325,6 +400,9 @@ fn main() {
     parts(6, 0);
     parts(7, 0);
     all_parts();
+}
+
+fn judgements() {
     pair_value(0, 3);
     pair_value(2, 4);
     pair_value(4, 5);
@@ -335,17 +413,24 @@ fn main() {
     outcome(1, 1, 1);
     outcome(1, 0, 0);
     outcome(1, 1, 2);
-    twice(0);
-    twice(2);
-    twice(4);
-    open(5, &[0, 4]);
-    open(7, &[0, 2, 4]);
-    open(7, &[0, 2, 5]);
-    open(7, &[0, 4, 1]);
-    open(1, &[0]);
-    open(0, &[]);
-    open(8, &[0]);
-    open(7, &[0, 2]);
+}
+
+fn openings() {
+    combine(&[2], &[0], &[0]);
+    combine(&[2], &[2], &[0]);
+    combine(&[2], &[4], &[0]);
+    combine(&[], &[], &[]);
+    open(5, &[0, 4], &[0, 0]);
+    open(7, &[0, 2, 4], &[0, 0, 0]);
+    open(7, &[0, 2, 5], &[0, 0, 0]);
+    open(7, &[0, 4, 1], &[0, 0, 0]);
+    open(1, &[0], &[0]);
+    open(0, &[], &[]);
+    open(8, &[0], &[0]);
+    open(7, &[0, 2], &[0, 0]);
+}
+
+fn sets() {
     set_of_example(5);
     set_of_example(7);
     set_of_example(1);
@@ -354,4 +439,48 @@ fn main() {
     neither(0);
     neither(1);
     neither(2);
+}
+
+fn zeros() {
+    zero_parts(0);
+    zero_parts(1);
+    zero_parts(2);
+    zero_parts(3);
+    all_zero_parts();
+    pair_value(4, 3);
+    pair_value(6, 1);
+    pair_value(1, 6);
+    judge_zero(1, 5, 2);
+    judge_zero(1, 5, 3);
+    judge_zero(1, 5, 7);
+}
+
+fn refreshes() {
+    refresh(0, 0, 4);
+    refresh(2, 0, 6);
+    refresh(4, 0, 1);
+    refresh(4, 65534, 6);
+    refresh(4, 65535, 6);
+    refresh(7, 65535, 6);
+}
+
+// The refreshed shares, alone and beside old ones.
+fn next_round() {
+    open(5, &[4, 5], &[1, 1]);
+    open(7, &[4, 1, 5], &[1, 1, 1]);
+    open(5, &[4, 4], &[1, 0]);
+    open(7, &[4, 2, 5], &[1, 0, 1]);
+    open(7, &[4, 1, 5], &[1, 1]);
+    combine(&[2, 1], &[4, 0], &[1, 1]);
+    combine(&[2, 1], &[4, 0], &[1, 0]);
+}
+
+fn main() {
+    dealings();
+    judgements();
+    openings();
+    sets();
+    zeros();
+    refreshes();
+    next_round();
 }

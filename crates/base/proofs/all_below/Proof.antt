@@ -1,7 +1,7 @@
 -- The mark `over` is 0 exactly while every entry passed is below p.
 use Prim.Native.Nat.{ℕ, _-_, _≤_, _+_}
-use mathlib.Core.Path.{_≡_, refl, sym, ap, _∙_}
-use mathlib.Core.Bool.{Bool, true, false, _&&_}
+use mathlib.Core.Path.{_≡_}
+use mathlib.Core.Bool.{Bool}
 use mathlib.Core.Logic.{⊎-elim}
 use native.Mathlib.Omega.{arith}
 use borrow.Author.Needs.{needs}
@@ -10,7 +10,7 @@ use lib.Dec.{eqb, ltb}
 use lib.ListN.{length, getD}
 use Rattle.base.specs.Search.{every}
 use Rattle.base.specs.Matrix.{allBelow}
-use Rattle.base.proofs.Search.{every-step}
+use Rattle.base.proofs.Search.{every-passed, every-failed}
 use Rattle.base.proofs.all_below.Statement.{statement}
 use Rattle.base.proofs.all_below.Tie as tie
 
@@ -19,21 +19,6 @@ Inv-loop s p over₀ i₀ over i = (i ≤ length s) × (eqb over 0 ≡ every i (
 
 abbrev μ-loop : tie.MeasureT-loop
 μ-loop s p over₀ i₀ over i = length s - i
-
-and-true : (b : Bool) → (b && true) ≡ b
-and-true true = refl
-and-true false = refl
-
-and-false : (b : Bool) → (b && false) ≡ false
-and-false true = refl
-and-false false = refl
-
--- one entry more
-passed : (t : ℕ → Bool) (i over : ℕ) → t i ≡ true → eqb over 0 ≡ every i t → eqb over 0 ≡ every (i + 1) t
-passed t i over e h = h ∙ sym (every-step i t ∙ ap (λ b. every i t && b) e ∙ and-true (every i t))
-
-failed : (t : ℕ → Bool) (i over : ℕ) → t i ≡ false → over ≡ 1 → eqb over 0 ≡ every (i + 1) t
-failed t i over e h = rw h (sym (every-step i t ∙ ap (λ b. every i t && b) e ∙ and-false (every i t)))
 
 loop-holds : tie.Need-loop-holds Inv-loop μ-loop
 unfolding every
@@ -57,8 +42,8 @@ loop-again c =
     let x = l .before .args in
     let t : ℕ → Bool = λ k. ltb (getD (x .s .now) k 0) (x .p) in (
       search needs,
-      ⊎-elim (λ w. failed t (l .loop .i) (c .if1 .over) (le-ltb _ _ (w .0 .taken)) (w .1))
-          (λ w. rw (w .1) (passed t (l .loop .i) (l .loop .over) (lt-ltb _ _ (w .0 .left)) (l .loop .inv .1)))
+      ⊎-elim (λ w. every-failed t (l .loop .i) (c .if1 .over) (le-ltb _ _ (w .0 .taken)) (w .1))
+          (λ w. rw (w .1) (every-passed t (l .loop .i) (l .loop .over) (lt-ltb _ _ (w .0 .left)) (l .loop .inv .1)))
           (c .if1 .came),
     )
 

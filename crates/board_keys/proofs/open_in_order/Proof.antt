@@ -5,7 +5,6 @@ use native.Mathlib.Omega.{arith}
 use borrow.Author.Needs.{needs}
 use borrow.Author.Tests.{not-false}
 use Rattle.base.proofs.Matrix.{below-by}
-use Rattle.board_keys.proofs.Opened.{openKey-ok}
 use Rattle.board_keys.proofs.Columns.{asked, ends-few, ends-differs, ends-no-byte, ends-key}
 use Rattle.board_keys.proofs.open_in_order.Statement.{statement}
 use Rattle.board_keys.proofs.open_in_order.Tie as tie
@@ -56,7 +55,7 @@ write-bytes-requires : tie.Need-write-bytes-requires
 write-bytes-requires c κs =
     let b = c .before .before in
     let s = start (b .before .before .before .before .before .before) in (
-      openKey-ok (s .args .set) (s .args .shares .now) (s .args .key .now) (s .pre) .room,
+      s .pre .room,
       below-by 256 _ (omega arith) (sym (b .all-below .ensures) ∙ not-false _ (c .before .if3 .left)),
     )
 

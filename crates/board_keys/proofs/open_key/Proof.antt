@@ -2,6 +2,7 @@
 use mathlib.Core.Path.{sym, _∙_}
 use borrow.Author.Needs.{needs}
 use Rattle.base.proofs.Rules.{declined, unchanged}
+use Rattle.board_keys.proofs.Opened.{openKey-ok}
 use Rattle.board_keys.proofs.open_key.Statement.{statement}
 use Rattle.board_keys.proofs.open_key.Tie as tie
 
@@ -17,7 +18,11 @@ returns c =
     (rw (← e) (declined _ _ (c .if1 .taken)), rw (← e) (unchanged _ _ _ (c .if1 .taken)))
 
 open-in-order-requires : tie.Need-open-in-order-requires
-open-in-order-requires c κs = sym (c .before .before .open-key-refusal .ensures) ∙ c .before .if1 .left
+open-in-order-requires c κs =
+    let e = c .before in
+    let x = e .before .before .before .before .before .before .args in
+    let k = openKey-ok (x .set) (x .shares .now) (x .rounds .now) (x .key .now) (sym (e .before .open-key-refusal .ensures) ∙ e .if1 .left) in
+    record { inside = k .inside; shares = k .shares; room = k .room }
 
 same-length-2 : tie.Need-same-length-2
 same-length-2 c = search needs

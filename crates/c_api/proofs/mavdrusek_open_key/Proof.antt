@@ -17,7 +17,7 @@ same-length c = search needs
 
 returns : tie.Need-returns
 returns c =
-    let s = c .before .before .before .before .before .before .before .before in
+    let s = c .before .before .before .before .before .before .before .before .before in
     let e = c .before .before .before .before .open-key .ensures .0 in
     (c .opened .ensures .0 ∙ ap (λ (a : Answer). a .number) e, (c .opened .ensures .1 ∙ ap (λ (a : Answer). place 0 a (s .args .position .now)) e, c .before .before .before .before .open-key .ensures .1))
 

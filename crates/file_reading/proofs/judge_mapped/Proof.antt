@@ -1,5 +1,6 @@
 -- What is judged stands in SU, DL, DF, the PV and the PF.
 use Prim.Native.Nat.{ℕ, _+_, _-_, _*_, _≤_}
+use mathlib.Core.Bool.{false}
 use mathlib.Core.List.{List, []}
 use mathlib.Core.Path.{_≡_, sym, ap, subst, _∙_}
 use native.Mathlib.Omega.{arith}
@@ -7,12 +8,12 @@ use lib.ListN.{length, take, drop}
 use lib.Seq.{length-take-le}
 use Rattle.scheme.specs.declared.Params.{Params}
 use Rattle.scheme.specs.Setup.{setupOf}
-use Rattle.record_layouts.specs.Records.{dealingSize, mappedSize, mappedPhi}
+use Rattle.record_layouts.specs.Records.{mappedSize, mappedPhi}
 use Rattle.file_records.specs.Inner.{HoldsPart}
 use Rattle.file_records.proofs.Reading.{part-is}
 use Rattle.file_reading.specs.declared.Parts.{Parts}
-use Rattle.file_reading.specs.Inner.{partOf, secondOf, PartsIn}
-use Rattle.file_reading.proofs.Judged.{few, small, at-is, behind-is, setup-there, fits, dealing-there, second-there, mapped-fair, mapped-judged}
+use Rattle.file_reading.specs.Inner.{partOf, zeroIn, secondOf, PartsIn}
+use Rattle.file_reading.proofs.Judged.{few, small, at-is, behind-is, setup-there, fits, dealing-there, first-is, second-there, mapped-fair, mapped-judged}
 use borrow.Author.Needs.{needs}
 use Rattle.file_reading.proofs.judge_mapped.Statement.{statement}
 use Rattle.file_reading.proofs.judge_mapped.Tie as tie
@@ -39,14 +40,18 @@ at c = 10 + 2 * (params c .n * (params c .l + params c .e))
 abbrev behind : tie.After-s → ℕ
 behind c = 10 + 2 * (params c .n * (params c .l + params c .e)) + 6 + 4 * (params c .l + params c .e)
 
+-- no DZ
+no-zero : (c : tie.After-s) → zeroIn (file c) ≡ false
+no-zero c = first-is (file c) (parts c) (in-order c) (begin c .pre .1)
+
 part-same : (c : tie.After-s) → take (length (file c) - at c) (drop (at c) (file c)) ≡ partOf (file c)
 part-same c = part-is (file c) (at c) ∙ ap (λ (k : ℕ). drop k (file c)) (at-is (file c) (parts c) (in-order c))
 
 second-same : (c : tie.After-s) → take (length (file c) - behind c) (drop (behind c) (file c)) ≡ secondOf (file c)
-second-same c = part-is (file c) (behind c) ∙ ap (λ (k : ℕ). drop k (file c)) (behind-is (file c) (parts c) (in-order c))
+second-same c = part-is (file c) (behind c) ∙ ap (λ (k : ℕ). drop k (file c)) (behind-is (file c) (parts c) (in-order c) (no-zero c))
 
 inside : (c : tie.After-s) → behind c ≤ length (file c)
-inside c = omega (arith, behind-is (file c) (parts c) (in-order c), fits (file c) (parts c) (in-order c))
+inside c = omega (arith, behind-is (file c) (parts c) (in-order c) (no-zero c), fits (file c) (parts c) (in-order c))
 
 entries : (c : tie.After-s) → (params c .n * (params c .l + params c .e) ≤ 512) × (params c .l + params c .e ≤ 16) × (params c .l * params c .l ≤ 64)
 entries c = let z = small (file c) (parts c) (in-order c) in (z .entries, z .width, z .map)
@@ -70,15 +75,17 @@ all-at c = c .before .before .before .before
 abbrev start-at : tie.After-read-map → tie.After-s
 start-at c = matrix-at (part-at (second-at (map-at c)))
 
-lists : (c : tie.After-read-part) → let a = matrix-at (part-at c) in HoldsPart (setupOf (params a) []) (partOf (file a)) (c .read-part .result)
+lists : (c : tie.After-read-part) → let a = matrix-at (part-at c) in
+    HoldsPart (setupOf (params a) []) (params a .l + params a .e) (partOf (file a)) (c .read-part .result)
 lists c =
     let a = matrix-at (part-at c) in
-    subst (λ (t : List ℕ). HoldsPart (setupOf (params a) []) t (c .read-part .result)) (part-same a) (c .read-part .ensures)
+    subst (λ (t : List ℕ). HoldsPart (setupOf (params a) []) (params a .l + params a .e) t (c .read-part .result)) (part-same a) (c .read-part .ensures)
 
-lists2 : (c : tie.After-read-part2) → let a = matrix-at (part-at (second-at c)) in HoldsPart (setupOf (params a) []) (secondOf (file a)) (c .read-part2 .result)
+lists2 : (c : tie.After-read-part2) → let a = matrix-at (part-at (second-at c)) in
+    HoldsPart (setupOf (params a) []) (params a .l + params a .e) (secondOf (file a)) (c .read-part2 .result)
 lists2 c =
     let a = matrix-at (part-at (second-at c)) in
-    subst (λ (t : List ℕ). HoldsPart (setupOf (params a) []) t (c .read-part2 .result)) (second-same a) (c .read-part2 .ensures)
+    subst (λ (t : List ℕ). HoldsPart (setupOf (params a) []) (params a .l + params a .e) t (c .read-part2 .result)) (second-same a) (c .read-part2 .ensures)
 
 map-read : (c : tie.After-read-map) → let a = start-at c in take (params a .l * params a .l) (c .read-map .result) ≡ mappedPhi (setupOf (params a) []) (secondOf (file a))
 map-read c =
@@ -142,7 +149,11 @@ read-part-requires : tie.Need-read-part-requires
 read-part-requires c κs =
     let a = matrix-at (c .before) in
     let P = in-order a in
-    (small (file a) (parts a) P, subst (λ (t : List ℕ). dealingSize (setupOf (params a) []) ≤ length t) (sym (part-same a)) (dealing-there (file a) (parts a) P))
+    let p = params a in (
+      small (file a) (parts a) P,
+      small (file a) (parts a) P .width,
+      subst (λ (t : List ℕ). 6 + 2 * (p .l + p .e + (p .l + p .e)) ≤ length t) (sym (part-same a)) (dealing-there (file a) (parts a) P (no-zero a)),
+    )
 
 sub-read-part-2 : tie.Need-sub-read-part-2
 sub-read-part-2 c = inside (matrix-at (part-at c))
@@ -161,7 +172,7 @@ whole-second a =
 read-part-requires-2 : tie.Need-read-part-requires-2
 read-part-requires-2 c κs =
     let a = matrix-at (part-at (c .before)) in
-    (small (file a) (parts a) (in-order a), omega (arith, whole-second a))
+    (small (file a) (parts a) (in-order a), small (file a) (parts a) (in-order a) .width, omega (arith, whole-second a))
 
 sub-read-map : tie.Need-sub-read-map
 sub-read-map c = inside (matrix-at (part-at (second-at c)))

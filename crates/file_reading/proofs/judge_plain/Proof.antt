@@ -7,12 +7,11 @@ use lib.ListN.{length, take, drop}
 use lib.Seq.{length-take-le}
 use Rattle.scheme.specs.declared.Params.{Params}
 use Rattle.scheme.specs.Setup.{setupOf}
-use Rattle.record_layouts.specs.Records.{dealingSize}
 use Rattle.file_records.specs.Inner.{HoldsPart}
 use Rattle.file_records.proofs.Reading.{part-is}
 use Rattle.file_reading.specs.declared.Parts.{Parts}
 use Rattle.file_reading.specs.Inner.{partOf, PartsIn}
-use Rattle.file_reading.proofs.Judged.{few, small, at-is, setup-there, dealing-there, plain-fair, plain-judged}
+use Rattle.file_reading.proofs.Judged.{few, small, at-is, setup-there, dealing-there, zero-is, plain-fair, plain-judged}
 use borrow.Author.Needs.{needs}
 use Rattle.file_reading.proofs.judge_plain.Statement.{statement}
 use Rattle.file_reading.proofs.judge_plain.Tie as tie
@@ -48,10 +47,11 @@ matrix-at c = c .before .before .before .before
 abbrev part-at : tie.After-read-part → tie.After-read-matrix
 part-at c = c .before .before
 
-lists : (c : tie.After-read-part) → let a = matrix-at (part-at c) in HoldsPart (setupOf (params a) []) (partOf (file a)) (c .read-part .result)
+lists : (c : tie.After-read-part) → let a = matrix-at (part-at c) in
+    HoldsPart (setupOf (params a) []) (params a .l + params a .e) (partOf (file a)) (c .read-part .result)
 lists c =
     let a = matrix-at (part-at c) in
-    subst (λ (t : List ℕ). HoldsPart (setupOf (params a) []) t (c .read-part .result)) (part-same a) (c .read-part .ensures)
+    subst (λ (t : List ℕ). HoldsPart (setupOf (params a) []) (params a .l + params a .e) t (c .read-part .result)) (part-same a) (c .read-part .ensures)
 
 abbrev all-at : tie.After-values → tie.After-read-part
 all-at c = c .before .before
@@ -98,7 +98,12 @@ read-part-requires : tie.Need-read-part-requires
 read-part-requires c κs =
     let a = matrix-at (c .before) in
     let P = in-order a in
-    (small (file a) (parts a) P, subst (λ (t : List ℕ). dealingSize (setupOf (params a) []) ≤ length t) (sym (part-same a)) (dealing-there (file a) (parts a) P))
+    let p = params a in (
+      small (file a) (parts a) P,
+      small (file a) (parts a) P .width,
+      subst (λ (t : List ℕ). 6 + 2 * (p .l + p .e + (p .l + p .e)) ≤ length t) (sym (part-same a))
+          (dealing-there (file a) (parts a) P (zero-is (file a) (parts a) P _ (begin a .pre .2))),
+    )
 
 array-share-prefix-matrix : tie.Need-array-share-prefix-matrix
 array-share-prefix-matrix c =
@@ -130,7 +135,7 @@ judgement-requires c κs =
     let l = all-at (c .before .before .before) in
     let m = part-at l in
     let a = matrix-at m in
-    plain-fair (file a) (parts a) (in-order a) (m .read-matrix .result) (m .read-matrix .ensures .1) (l .read-part .result) (lists l)
+    plain-fair (file a) (parts a) (in-order a) (m .read-matrix .result) (m .read-matrix .ensures .1) (l .read-part .result) (lists l) (begin a .pre .2)
 
 returns : tie.Need-returns
 returns c =
@@ -138,7 +143,7 @@ returns c =
     let l = all-at (j .before .before .before .before) in
     let m = part-at l in
     let a = matrix-at m in
-    plain-judged (file a) (parts a) (in-order a) (m .read-matrix .result) (m .read-matrix .ensures .1) (l .read-part .result) (lists l) (j .judgement .result) (begin a .pre .1) (j .judgement .ensures)
+    plain-judged (file a) (parts a) (in-order a) (m .read-matrix .result) (m .read-matrix .ensures .1) (l .read-part .result) (lists l) (j .judgement .result) (begin a .pre .1) (begin a .pre .2) (j .judgement .ensures)
 
 pub judge-plain-spec : {M : Type 1} → statement M
 judge-plain-spec =

@@ -11,11 +11,11 @@ use Rattle.scheme.specs.Setup.{setupOf}
 use Rattle.scheme.specs.Dealing.{fateOf}
 use Rattle.record_layouts.specs.declared.DealingRecord.{DealingRecord}
 use Rattle.record_layouts.specs.Records.{setupAt}
-use Rattle.file_reading.specs.Contents.{Contents, isMapped, verdictOf, judgement, fate}
-use Rattle.file_reading.specs.File.{hasMap, readFile}
+use Rattle.file_reading.specs.Contents.{Contents, isMapped, isZero, verdictOf, judgement, fate}
+use Rattle.file_reading.specs.File.{readFile}
 use Rattle.file_reading.specs.File as reads
-use Rattle.file_reading.specs.Inner.{secondOf, contentsRead, PartsIn, JudgedIn}
-use Rattle.file_reading.proofs.Steps.{dealing-fair, tells-refused, tells-whole, of-13, of-whole, fate-same, kept-shares, no-shares, told-is, kind-mapped}
+use Rattle.file_reading.specs.Inner.{zeroIn, secondOf, tiedIn, contentsRead, PartsIn, JudgedIn}
+use Rattle.file_reading.proofs.Steps.{dealing-fair, tells-refused, tells-whole, of-13, of-whole, fate-same, kept-shares, no-shares, told-is, has-own, kind-mapped, kind-zero}
 use Rattle.file_reading.proofs.Judged.{few}
 use borrow.Author.Needs.{needs}
 use Rattle.file_reading.proofs.read_file.Statement.{statement}
@@ -83,7 +83,13 @@ agreed c =
 tied : (c : tie.Else1) → read c .read-parts .result .mapped ≡ isMapped (contents c .kind)
 tied c =
     let S = setupAt (file c) in
-    parts c .mapped ∙ kind-mapped S (hasMap (secondOf (file c))) (secondOf (file c)) (take (S .n) (read c .read-parts .result .values2))
+    parts c .mapped ∙ kind-mapped S (zeroIn (file c)) (tiedIn (file c)) (secondOf (file c)) (take (S .n) (read c .read-parts .result .values2))
+
+none : (c : tie.Else1) → read c .read-parts .result .zero ≡ isZero (contents c .kind)
+none c =
+    let s = file c in
+    let S = setupAt s in
+    parts c .zero ∙ kind-zero S (zeroIn s) (tiedIn s) (secondOf s) (take (S .n) (read c .read-parts .result .values2)) (has-own (zeroIn s) (secondOf s))
 
 nothing-requires : tie.Need-nothing-requires
 nothing-requires c κs = search needs
@@ -158,8 +164,8 @@ returns-3 c =
     let C = contents w in
     let e = sym (fate-is (settled (came .before))) ∙ kept .enum-told4 .given .1 in
     tells-whole C _ (readFile (file w)) (agreed differs)
-    (told-is C _ _ _ _ _ _ _ (parts w .setup) (parts w .dealing) (J .judgement) (fate-is (settled (came .before)))
-    (kept-shares (C .setup) (C .verdicts) _ _ e (J .shares)) (tied w) (kept-shares (C .setup) (C .verdicts) _ _ e (J .shares2)))
+    (told-is C _ _ _ _ _ _ _ _ (parts w .setup) (parts w .dealing) (J .judgement) (fate-is (settled (came .before)))
+    (kept-shares (C .setup) (C .verdicts) _ _ e (J .shares)) (tied w) (kept-shares (C .setup) (C .verdicts) _ _ e (J .shares2)) (none w))
 
 returns-4 : tie.Need-returns-4
 returns-4 c =
@@ -170,8 +176,8 @@ returns-4 c =
     let C = contents w in
     let e = sym (fate-is (settled (came .before))) ∙ c .enum-told5 .given .1 in
     tells-whole C _ (readFile (file w)) (agreed differs)
-    (told-is C _ _ _ _ _ _ _ (parts w .setup) (parts w .dealing) (J .judgement) (fate-is (settled (came .before)))
-    (no-shares (C .setup) (C .verdicts) _ _ e) (tied w) (no-shares (C .setup) (C .verdicts) _ _ e))
+    (told-is C _ _ _ _ _ _ _ _ (parts w .setup) (parts w .dealing) (J .judgement) (fate-is (settled (came .before)))
+    (no-shares (C .setup) (C .verdicts) _ _ e) (tied w) (no-shares (C .setup) (C .verdicts) _ _ e) (none w))
 
 pub read-file-spec : {M : Type 1} → statement M
 read-file-spec =

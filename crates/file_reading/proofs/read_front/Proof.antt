@@ -1,5 +1,6 @@
--- Each test names the fault; where there is none the fields are those of SU and DL.
+-- Each test names the fault; where there is none the fields are those of SU and of DL or DZ.
 use Prim.Native.Nat.{ℕ, _+_, _-_, _*_, _≤_, _<_}
+use mathlib.Core.Bool.{Bool}
 use mathlib.Core.List.{List, []}
 use mathlib.Core.Path.{_≡_, refl, sym, ap, subst, _∙_}
 use native.Mathlib.Omega.{arith}
@@ -9,13 +10,14 @@ use lib.ListN.{length, take, drop, length-drop}
 use Rattle.base.specs.Rules.{refusal}
 use Rattle.scheme.specs.declared.Params.{Params}
 use Rattle.scheme.specs.Setup.{Limits, setupOf}
-use Rattle.record_layouts.specs.Records.{markSU, paramsAt, setupAt, setupSize, dealingAt, standingRules, dealingLayout}
+use Rattle.record_layouts.specs.Records.{markSU, markDZ, paramsAt, setupAt, setupSize, dealingAt, standingRules}
 use Rattle.record_layouts.proofs.Calls.{setup-read, matrix-small, dim-small}
 use Rattle.file_records.proofs.Reading.{part-is}
 use Rattle.file_reading.specs.declared.Front.{Front}
-use Rattle.file_reading.specs.File.{refusedAt, setupFault, dealingFault, readFile}
-use Rattle.file_reading.specs.Inner.{partOf, ReadsFront}
-use Rattle.file_reading.proofs.Steps.{setup-11, setup-own, setup-clear, isSecond, deal-11, deal-3, deal-10, deal-own, file-refused, file-dealing-refused}
+use Rattle.file_reading.specs.Contents.{columns, partLayout}
+use Rattle.file_reading.specs.File.{refusedAt, setupFault, hasZero, dealingFault, readFile}
+use Rattle.file_reading.specs.Inner.{partOf, zeroIn, ReadsFront}
+use Rattle.file_reading.proofs.Steps.{setup-11, setup-own, setup-clear, part-size, zero-mark, isSecond, deal-11, deal-3, deal-10, deal-own, file-refused, file-dealing-refused}
 use borrow.Author.Needs.{needs}
 use Rattle.file_reading.proofs.read_front.Statement.{statement}
 use Rattle.file_reading.proofs.read_front.Tie as tie
@@ -57,7 +59,7 @@ end-is c = ap (λ (p : Params). 10 + 2 * (p .n * (p .l + p .e))) (params-are c)
 dealing-refused : (c : tie.Else2) (k : ℕ) → (k ≡ 0 → ⊥) → k ≡ dealingFault (setupAt (file c)) (partOf (file c)) → refusedAt k (end c) ≡ readFile (file c)
 dealing-refused c k n e = ap (refusedAt k) (end-is c) ∙ file-dealing-refused (file c) (fair c) (setupAt (file c)) refl k e n
 
--- DL: the part behind SU, which is not empty
+-- DL or DZ: the part behind SU, which is not empty
 abbrev whole : tie.Else3 → tie.Else2
 whole c = c .before .before .before .before
 
@@ -74,16 +76,22 @@ second : (c : tie.Else4) → isSecond (partOf (file (whole (behind c)))) ≡ eqb
 second c =
     sym (ap isSecond (part-same (behind c))) ∙ rw (le-ltb _ 2 (c .if4 .left)) (ap (λ (w : ℕ). eqb w markSU) (sym (c .before .before .word .ensures)))
 
-own : (c : tie.After-dealing-fault) → let d = behind (c .before .before) in
-    c .dealing-fault .result ≡ dealingFault (setupAt (file (whole d))) (partOf (file (whole d)))
+-- whether it is a DZ
+zero-same : (c : tie.Else4) → eqb (c .before .before .word .result) markDZ ≡ zeroIn (file (whole (behind c)))
+zero-same c =
+    ap (λ (w : ℕ). eqb w markDZ) (c .before .before .word .ensures) ∙ sym (zero-mark _ (c .if4 .left)) ∙ ap hasZero (part-same (behind c))
+
+own : (c : tie.After-part-fault) → let d = behind (c .before .before) in
+    c .part-fault .result ≡ dealingFault (setupAt (file (whole d))) (partOf (file (whole d)))
 own c =
     let past = c .before .before in
     let d = behind past in
     let s = file (whole d) in
     let t = take (length s - end (whole d)) (drop (end (whole d)) s) in
-    c .dealing-fault .ensures
-    ∙ ap (λ (p : Params). refusal (standingRules dealingLayout (setupOf p []) t)) (params-are (whole d))
-    ∙ ap (λ (u : List ℕ). refusal (standingRules dealingLayout (setupAt s) u)) (part-same d)
+    c .part-fault .ensures
+    ∙ ap (λ (z : Bool). refusal (standingRules (partLayout z) (setupOf (params (whole d)) []) t)) (zero-same past)
+    ∙ ap (λ (p : Params). refusal (standingRules (partLayout (zeroIn s)) (setupOf p []) t)) (params-are (whole d))
+    ∙ ap (λ (u : List ℕ). refusal (standingRules (partLayout (zeroIn s)) (setupAt s) u)) (part-same d)
     ∙ deal-own (setupAt s) (partOf s) (some d) (second past ∙ ne-eqb _ _ (c .before .if5 .left))
 
 unread-requires : tie.Need-unread-requires
@@ -169,8 +177,8 @@ returns-5 c =
     refused s _ (λ z. omega (arith, z))
     (dealing-refused (whole d) 10 (λ z. omega (arith, z)) (deal-10 (setupAt s) (partOf s) (some d) (second past ∙ eq-eqb _ _ (c .if5 .taken))))
 
-dealing-fault-requires : tie.Need-dealing-fault-requires
-dealing-fault-requires c κs = search needs
+part-fault-requires : tie.Need-part-fault-requires
+part-fault-requires c κs = search needs
 
 returns-6 : tie.Need-returns-6
 returns-6 c =
@@ -181,24 +189,40 @@ returns-6 c =
 add-front : tie.Need-add-front
 add-front c = omega (arith, small (whole (behind (c .before .before .before .before))) .0)
 
+column-len-requires : tie.Need-column-len-requires
+column-len-requires c κs = search needs
+
+add-front-2 : tie.Need-add-front-2
+add-front-2 c = search needs
+
 mul-front : tie.Need-mul-front
 mul-front c = search needs
 
-add-front-2 : tie.Need-add-front-2
-add-front-2 c = omega (arith, small (whole (behind (c .before .before .before .before))))
+add-front-3 : tie.Need-add-front-3
+add-front-3 c = omega (arith, small (whole (behind (c .before .before .before .before .before))), c .column-len .ensures .1)
 
 returns-7 : tie.Need-returns-7
 returns-7 c =
-    let dealing = c .before .before in
-    let d = behind (dealing .before .before) in
+    let none = c .before in
+    let dealing = none .before .before in
+    let past = dealing .before .before in
+    let d = behind past in
     let e = params-are (whole d) in
+    let s = file (whole d) in
     record {
-      refused = λ n. absurd (n (c .if6 .left));
+      refused = λ n. absurd (n (none .if6 .left));
       next = λ _. record {
-        fair = record { setup = fair (whole d); dealing = sym (own dealing) ∙ c .if6 .left };
+        fair = record { setup = fair (whole d); dealing = sym (own dealing) ∙ none .if6 .left };
         setup = e;
-        dealing = dealing .before .before .before .dealing-at .ensures ∙ ap dealingAt (part-same d);
-        byte = omega (arith, end-is (whole d), ap (λ (p : Params). p .l + p .e) e);
+        dealing = past .before .dealing-at .ensures ∙ ap dealingAt (part-same d);
+        zero = zero-same past;
+        byte = omega (
+          arith,
+          end-is (whole d),
+          ap (λ (p : Params). p .l + p .e) e,
+          c .column-len .ensures .0 ∙ ap (λ (z : Bool). columns z (setupOf (params (whole d)) [])) (zero-same past) ∙ ap (λ (p : Params). columns (zeroIn s) (setupOf p [])) e,
+          part-size (zeroIn s) (setupAt s),
+        );
       };
     }
 
@@ -226,9 +250,11 @@ read-front-spec =
     dealing-at-requires
     returns-4
     returns-5
-    dealing-fault-requires
+    part-fault-requires
     returns-6
     add-front
-    mul-front
+    column-len-requires
     add-front-2
+    mul-front
+    add-front-3
     returns-7)

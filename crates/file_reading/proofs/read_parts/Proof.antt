@@ -1,4 +1,4 @@
--- What refuses SU, DL or DF decides; where they are in order, the record reached behind them.
+-- What refuses SU, DL, DZ or DF decides; where they are in order, the record reached behind them.
 use mathlib.Core.Bool.{Bool}
 use mathlib.Core.Path.{_≡_, refl, sym, ap, subst, _∙_}
 use mathlib.Core.List.{List, []}
@@ -12,14 +12,14 @@ use Rattle.record_layouts.specs.Records.{setupAt, dealingAt}
 use Rattle.file_records.specs.declared.Head.{Head}
 use Rattle.file_records.specs.Inner.{Sends}
 use Rattle.file_records.proofs.Reading.{part-is, reached-inside}
-use Rattle.file_reading.specs.File.{refusedAt, hasMap, mappedFault, firstByte, start, headOf}
-use Rattle.file_reading.specs.Inner.{FrontIn, ReadsMap, partOf, secondOf}
+use Rattle.file_reading.specs.File.{refusedAt, mappedFault, start, headOf}
+use Rattle.file_reading.specs.Inner.{FrontIn, ReadsMap, partOf, zeroIn, secondOf, tiedIn}
 use Rattle.file_reading.proofs.Steps.{setup-fair, file-mapped-refused, start-fits, sent-refused, sent-next}
 use borrow.Author.Needs.{needs}
 use Rattle.file_reading.proofs.read_parts.Statement.{statement}
 use Rattle.file_reading.proofs.read_parts.Tie as tie
 
--- SU and DL in order
+-- SU and DL or DZ in order
 abbrev read : tie.Else1 → tie.After-read-front
 read c = c .before .before .before .before
 
@@ -40,20 +40,20 @@ second : (c : tie.Else2) → ReadsMap (file (behind c .before)) (behind c .read-
 second c = behind c .read-second .ensures
 
 abbrev tied : tie.Else2 → Bool
-tied c = hasMap (secondOf (file (behind c .before)))
+tied c = tiedIn (file (behind c .before))
 
 abbrev from : tie.Else2 → ℕ
-from c = start (setupAt (file (behind c .before))) (tied c)
+from c = let s = file (behind c .before) in start (setupAt s) (zeroIn s) (tied c)
 
 from-is : (c : tie.Else2) → behind c .read-second .result .byte ≡ from c
 from-is c = second c .next (c .if2 .left)
 
-in-order : (c : tie.Else2) → let s = file (behind c .before) in mappedFault (setupAt s) (dealingAt (partOf s)) (secondOf s) ≡ 0
+in-order : (c : tie.Else2) → let s = file (behind c .before) in mappedFault (setupAt s) (dealingAt (partOf s)) (zeroIn s) (secondOf s) ≡ 0
 in-order c = sym (second c .number) ∙ c .if2 .left
 
 -- what PV, PF and VD are held against
 abbrev head : tie.Else2 → Head
-head c = let s = file (behind c .before) in headOf (setupAt s) (dealingAt (partOf s)) (tied c)
+head c = let s = file (behind c .before) in headOf (setupAt s) (dealingAt (partOf s)) (zeroIn s) (tied c)
 
 -- what is given of the records behind
 sent : (c : tie.After-read-received) → let f = c .before .before in
@@ -65,10 +65,11 @@ sent c =
     let m = behind f .read-second .result in
     let s = file (behind f .before) in
     subst (λ (h : Head). Sends h (drop (from f) s) (c .read-received .result))
-    (ap (λ (p : Params). headOf (setupOf p []) (r .record) (m .mapped)) (F .setup)
-    ∙ ap (λ (x : DealingRecord). headOf (setupAt s) x (m .mapped)) (F .dealing)
-    ∙ ap (headOf (setupAt s) (dealingAt (partOf s))) (second f .mapped))
-    (subst (λ (t : List ℕ). Sends (headOf (setupOf (r .setup) []) (r .record) (m .mapped)) t (c .read-received .result))
+    (ap (λ (p : Params). headOf (setupOf p []) (r .record) (r .zero) (m .mapped)) (F .setup)
+    ∙ ap (λ (x : DealingRecord). headOf (setupAt s) x (r .zero) (m .mapped)) (F .dealing)
+    ∙ ap (λ (z : Bool). headOf (setupAt s) (dealingAt (partOf s)) z (m .mapped)) (F .zero)
+    ∙ ap (headOf (setupAt s) (dealingAt (partOf s)) (zeroIn s)) (second f .mapped))
+    (subst (λ (t : List ℕ). Sends (headOf (setupOf (r .setup) []) (r .record) (r .zero) (m .mapped)) t (c .read-received .result))
     (part-is s (m .byte) ∙ ap (λ (k : ℕ). drop k s) (from-is f)) (c .read-received .ensures))
 
 read-front-requires : tie.Need-read-front-requires
@@ -89,7 +90,7 @@ returns-2 c =
     let M = b .read-second .ensures in
     let k = b .read-second .result .refusal in
     record {
-      refused = λ n. ap (refusedAt k) (M .refused n) ∙ file-mapped-refused s (F .setup) (setupAt s) refl (F .dealing) refl refl refl k (M .number) n;
+      refused = λ n. ap (refusedAt k) (M .refused n) ∙ file-mapped-refused s (F .setup) (setupAt s) refl (F .dealing) refl refl refl refl k (M .number) n;
       next = λ z. absurd (c .if2 .taken z);
     }
 
@@ -143,6 +144,7 @@ returns-3 c =
             setup = F .setup;
             dealing = F .dealing;
             mapped = second f .mapped;
+            zero = F .zero;
             values-size = W .values-size;
             values2-size = W .values2-size;
             verdicts-size = W .verdicts-size;

@@ -1,4 +1,4 @@
--- The mark of what stands behind DL decides whether it is a DF, and the rules of a DF whether it is refused.
+-- The mark of what stands behind DL decides whether it is a DF, and the rules of a DF whether it is refused; behind a DZ there is none.
 use Prim.Native.Nat.{ℕ, _+_, _-_, _*_, _≤_, _<_}
 use mathlib.Core.Bool.{true, false}
 use mathlib.Core.List.{List, []}
@@ -15,19 +15,19 @@ use Rattle.record_layouts.specs.Words.{wordAt}
 use Rattle.record_layouts.specs.Records.{markDF, setupAt, dealingAt}
 use Rattle.file_records.proofs.Reading.{part-is}
 use Rattle.file_reading.specs.declared.Front.{Front}
-use Rattle.file_reading.specs.File.{hasMap, mappedRules, mappedFault, firstByte, start}
-use Rattle.file_reading.specs.Inner.{partOf, secondOf, FrontIn, ReadsMap}
-use Rattle.file_reading.proofs.Steps.{front-fits, has-none, has-mark, map-none, map-own}
+use Rattle.file_reading.specs.File.{mappedRules, mappedFault}
+use Rattle.file_reading.specs.Inner.{partOf, zeroIn, secondOf, tiedIn, FrontIn, ReadsMap}
+use Rattle.file_reading.proofs.Steps.{front-fits, has-no-place, has-none, has-mark, map-none, map-own}
 use borrow.Author.Needs.{needs}
 use Rattle.file_reading.proofs.read_second.Statement.{statement}
 use Rattle.file_reading.proofs.read_second.Tie as tie
 
 -- no DF
-none-there : (s : List ℕ) (f : Front) → FrontIn s f → hasMap (secondOf s) ≡ false → ReadsMap s (record { refusal = 0; byte = f .byte; mapped = false })
+none-there : (s : List ℕ) (f : Front) → FrontIn s f → tiedIn s ≡ false → ReadsMap s (record { refusal = 0; byte = f .byte; mapped = false })
 none-there s f F e =
     record {
       mapped = sym e;
-      number = map-none (setupAt s) (dealingAt (partOf s)) (secondOf s) e;
+      number = map-none (setupAt s) (dealingAt (partOf s)) (zeroIn s) (secondOf s) e;
       refused = λ n. absurd (n refl);
       next = λ _. F .byte ∙ rw e (omega arith);
     }
@@ -41,27 +41,28 @@ file c = begin c .args .file .now
 abbrev front : tie.After-t → Front
 front c = begin c .args .front
 
--- the part behind DL
+-- the part behind DL or DZ
 part-same : (c : tie.After-t) → take (length (file c) - front c .byte) (drop (front c .byte) (file c)) ≡ secondOf (file c)
 part-same c = part-is (file c) (front c .byte) ∙ ap (λ (k : ℕ). drop k (file c)) (begin c .pre .byte)
 
 -- its mark
-marked : (c : tie.Else1) → let a = c .before .before in hasMap (secondOf (file a)) ≡ eqb (wordAt (secondOf (file a)) 0) markDF
+marked : (c : tie.Else2) → let a = c .before .before .before in tiedIn (file a) ≡ eqb (wordAt (secondOf (file a)) 0) markDF
 marked c =
-    let a = c .before .before in
-    has-mark (secondOf (file a)) (subst (λ (u : List ℕ). 2 ≤ length u) (part-same a) (c .if1 .left))
-
-there : (c : tie.Else2) → hasMap (secondOf (file (c .before .before .before))) ≡ true
-there c =
     let a = c .before .before .before in
-    marked (c .before) ∙ eq-eqb _ _ (ap (λ (u : List ℕ). wordAt u 0) (sym (part-same a)) ∙ sym (c .before .before .word .ensures) ∙ c .if2 .left)
+    let s = file a in
+    has-mark (zeroIn s) (secondOf s) (sym (begin a .pre .zero) ∙ c .before .if1 .left) (subst (λ (u : List ℕ). 2 ≤ length u) (part-same a) (c .if2 .left))
+
+there : (c : tie.Else3) → tiedIn (file (c .before .before .before .before)) ≡ true
+there c =
+    let a = c .before .before .before .before in
+    marked (c .before) ∙ eq-eqb _ _ (ap (λ (u : List ℕ). wordAt u 0) (sym (part-same a)) ∙ sym (c .before .before .before .word .ensures) ∙ c .if3 .left)
 
 -- and what refuses it
-own : (c : tie.After-second-fault) → let a = c .before .before .before .before .before in
+own : (c : tie.After-second-fault) → let a = c .before .before .before .before .before .before in
     let s = file a in
-    c .second-fault .result ≡ mappedFault (setupAt s) (dealingAt (partOf s)) (secondOf s)
+    c .second-fault .result ≡ mappedFault (setupAt s) (dealingAt (partOf s)) (zeroIn s) (secondOf s)
 own c =
-    let a = c .before .before .before .before .before in
+    let a = c .before .before .before .before .before .before in
     let s = file a in
     let F = begin a .pre in
     let t = take (length s - front a .byte) (drop (front a .byte) s) in
@@ -69,7 +70,7 @@ own c =
     ∙ ap (λ (p : Params). refusal (mappedRules (setupOf p []) (front a .record) t)) (F .setup)
     ∙ ap (λ (x : DealingRecord). refusal (mappedRules (setupAt s) x t)) (F .dealing)
     ∙ ap (λ (u : List ℕ). refusal (mappedRules (setupAt s) (dealingAt (partOf s)) u)) (part-same a)
-    ∙ map-own (setupAt s) (dealingAt (partOf s)) (secondOf s) (there (c .before .before))
+    ∙ map-own (setupAt s) (dealingAt (partOf s)) (zeroIn s) (secondOf s) (there (c .before .before))
 
 fits : (s : List ℕ) (f : Front) → FrontIn s f → f .byte ≤ length s
 fits s f F = omega (arith, F .byte, front-fits s (F .fair))
@@ -89,26 +90,33 @@ word-requires c κs = search needs
 returns : tie.Need-returns
 returns c =
     let a = c .before .before in
-    none-there (file a) (front a) (begin a .pre) (has-none (secondOf (file a)) (subst (λ (u : List ℕ). length u < 2) (part-same a) (c .if1 .taken)))
+    let s = file a in
+    none-there s (front a) (begin a .pre) (has-no-place (zeroIn s) (secondOf s) (sym (begin a .pre .zero) ∙ c .if1 .taken))
 
 returns-2 : tie.Need-returns-2
 returns-2 c =
     let a = c .before .before .before in
+    let s = file a in
+    none-there s (front a) (begin a .pre) (has-none (zeroIn s) (secondOf s) (subst (λ (u : List ℕ). length u < 2) (part-same a) (c .if2 .taken)))
+
+returns-3 : tie.Need-returns-3
+returns-3 c =
+    let a = c .before .before .before .before in
     none-there (file a) (front a) (begin a .pre)
-    (marked (c .before) ∙ ne-eqb _ _ (λ e. c .if2 .taken (c .before .before .word .ensures ∙ ap (λ (u : List ℕ). wordAt u 0) (part-same a) ∙ e)))
+    (marked (c .before) ∙ ne-eqb _ _ (λ e. c .if3 .taken (c .before .before .before .word .ensures ∙ ap (λ (u : List ℕ). wordAt u 0) (part-same a) ∙ e)))
 
 second-fault-requires : tie.Need-second-fault-requires
 second-fault-requires c κs = search needs
 
-returns-3 : tie.Need-returns-3
-returns-3 c =
+returns-4 : tie.Need-returns-4
+returns-4 c =
     let fault = c .before .before in
-    let a = fault .before .before .before .before .before in
+    let a = fault .before .before .before .before .before .before in
     record {
       mapped = sym (there (fault .before .before));
       number = own fault;
       refused = λ _. begin a .pre .byte;
-      next = λ z. absurd (c .if3 .taken z);
+      next = λ z. absurd (c .if4 .taken z);
     }
 
 add-second : tie.Need-add-second
@@ -132,17 +140,17 @@ mul-second-2 c = search needs
 add-second-3 : tie.Need-add-second-3
 add-second-3 c = search needs
 
-returns-4 : tie.Need-returns-4
-returns-4 c =
+returns-5 : tie.Need-returns-5
+returns-5 c =
     let none = c .before .before in
     let fault = none .before .before in
-    let a = fault .before .before .before .before .before in
+    let a = fault .before .before .before .before .before .before in
     let F = begin a .pre in
     let yes = there (fault .before .before) in
     record {
       mapped = sym yes;
       number = own fault;
-      refused = λ n. absurd (n (none .if3 .left));
+      refused = λ n. absurd (n (none .if4 .left));
       next = λ _. rw yes
           (omega (
             arith,
@@ -164,8 +172,9 @@ read-second-spec =
     word-requires
     returns
     returns-2
-    second-fault-requires
     returns-3
+    second-fault-requires
+    returns-4
     add-second
     dim-requires
     mul-second
@@ -173,4 +182,4 @@ read-second-spec =
     map-len-requires
     mul-second-2
     add-second-3
-    returns-4)
+    returns-5)

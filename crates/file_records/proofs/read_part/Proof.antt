@@ -40,7 +40,7 @@ slice-aggregate-get-words : tie.Need-slice-aggregate-get-words
 slice-aggregate-get-words c = sym (length-take-le _ (zeros 8) (omega (arith, start c .pre .0 .secret)))
 
 get-words-requires : tie.Need-get-words-requires
-get-words-requires c κs = let P = start c .pre in omega (arith, length-take-le (setup c .l) (zeros 8) (omega (arith, P .0 .secret)), P .1)
+get-words-requires c κs = let P = start c .pre in omega (arith, length-take-le (setup c .l) (zeros 8) (omega (arith, P .0 .secret)), P .2)
 
 add-get-words : tie.Need-add-get-words
 add-get-words c = search needs
@@ -49,13 +49,12 @@ array-borrow-prefix-h : tie.Need-array-borrow-prefix-h
 array-borrow-prefix-h c = search needs
 
 slice-aggregate-get-words-2 : tie.Need-slice-aggregate-get-words-2
-slice-aggregate-get-words-2 c = sym (length-take-le _ (zeros 16) (omega (arith, start (before-h c) .pre .0 .width)))
+slice-aggregate-get-words-2 c = sym (length-take-le _ (zeros 16) (omega (arith, start (before-h c) .pre .1)))
 
 get-words-requires-2 : tie.Need-get-words-requires-2
 get-words-requires-2 c κs =
-    let m = before-h c in
-    let P = start m .pre in
-    omega (arith, length-take-le (dim (setup m)) (zeros 16) (omega (arith, P .0 .width)), P .1)
+    let x = start (before-h c) in
+    omega (arith, length-take-le (x .args .k) (zeros 16) (omega (arith, x .pre .1)), x .pre .2)
 
 returns : tie.Need-returns
 returns c =
@@ -65,7 +64,7 @@ returns c =
     let S = setup (before-h (h .before)) in
     let t = x .args .part .now in
     let P = x .pre .0 in
-    let b = front t (3 + dim S) (dim S) (zeros 16) _ (omega (arith, P .width)) (h .get-words2 .ensures) in
+    let b = front t (3 + dim S) (x .args .k) (zeros 16) _ (omega (arith, x .pre .1)) (h .get-words2 .ensures) in
     record {
       shares = ap (λ (l : List ℕ). l ++ drop (S .l) (zeros 8)) (h .before .before .before .get-words .ensures ∙ ap (wordsAt t 3) (length-take-le (S .l) (zeros 8) (omega (arith, P .secret))));
       h-size = b .0;

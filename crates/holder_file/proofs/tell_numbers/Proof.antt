@@ -11,8 +11,8 @@ verdict-said-requires c κs = search needs
 outcome-said-requires : tie.Need-outcome-said-requires
 outcome-said-requires c κs = search needs
 
-mapped-said-requires : tie.Need-mapped-said-requires
-mapped-said-requires c κs = search needs
+kind-said-requires : tie.Need-kind-said-requires
+kind-said-requires c κs = search needs
 
 array-read-t13 : tie.Need-array-read-t13
 array-read-t13 c = search needs
@@ -66,7 +66,7 @@ returns : tie.Need-returns
 returns c =
     let x = c .before .before .before .before .before .before .before in
     let outcome = c .before .before in
-    (numbers-told (x .args .t) _ _ _ _ _ (x .pre .0) (x .pre .1) (outcome .before .verdict-said .ensures) (outcome .outcome-said .ensures) (c .before .mapped-said .ensures), refl)
+    (numbers-told (x .args .t) _ _ _ _ _ (x .pre .0) (x .pre .1) (outcome .before .verdict-said .ensures) (outcome .outcome-said .ensures) (c .before .kind-said .ensures), refl)
 
 pub tell-numbers-spec : {M : Type 1} → statement M
 tell-numbers-spec =
@@ -74,7 +74,7 @@ tell-numbers-spec =
     (tie.spec
     verdict-said-requires
     outcome-said-requires
-    mapped-said-requires
+    kind-said-requires
     array-read-t13
     array-read-t16
     array-read-t19

@@ -16,19 +16,19 @@ use Rattle.opening.proofs.open.Tie as tie
 
 -- the places: the start from where nothing is refused, `dim`, right behind that, from where the opening is asked
 abbrev start : tie.Else1 → tie.Start
-start c = c .before .before .before .before .before .before
+start c = c .before .before .before .before .before .before .before
 
 abbrev at-dim : tie.After-marks → tie.After-dim
 at-dim c = c .before .before .before
 
-none : (c : tie.Else1) → let x = start c .args in refusal (openRules (setupOf (x .s) (x .matrix .now)) (x .set) (x .shares .now) (x .secrets .now)) ≡ 0
+none : (c : tie.Else1) → let x = start c .args in refusal (openRules (setupOf (x .s) (x .matrix .now)) (x .set) (x .shares .now) (x .rounds .now) (x .secrets .now)) ≡ 0
 none c = sym (c .before .open-refusal .ensures) ∙ c .if1 .left
 
-ok : (c : tie.Else1) → let x = start c .args in OpenOk (setupOf (x .s) (x .matrix .now)) (x .set) (x .shares .now) (x .secrets .now)
-ok c = open-ok _ _ _ _ (none c)
+ok : (c : tie.Else1) → let x = start c .args in OpenOk (setupOf (x .s) (x .matrix .now)) (x .set) (x .shares .now) (x .rounds .now) (x .secrets .now)
+ok c = open-ok _ _ _ _ _ (none c)
 
 has-room : (c : tie.After-dim) → Room (length (start (c .before) .args .shares .now)) (c .dim .result)
-has-room c = let o = ok (c .before) in room (open-taken o) (o .shares .size) (c .dim .ensures .0)
+has-room c = let o = ok (c .before) in room (open-taken o .set) (o .shares .size) (c .dim .ensures .0)
 
 open-refusal-requires : tie.Need-open-refusal-requires
 open-refusal-requires c κs = search needs
@@ -64,7 +64,7 @@ open-by-requires : tie.Need-open-by-requires
 open-by-requires c κs =
     let d = at-dim c in
     let h = has-room d in
-    (none (d .before), rw (← (ok (d .before) .shares .size), ← (d .dim .ensures .0)) (fresh (length (start (d .before) .args .shares .now)) (d .dim .result + 1) 544 32 (h .beside) (h .members)))
+    (open-taken (ok (d .before)), rw (← (ok (d .before) .shares .size), ← (d .dim .ensures .0)) (fresh (length (start (d .before) .args .shares .now)) (d .dim .result + 1) 544 32 (h .beside) (h .members)))
 
 same-length-2 : tie.Need-same-length-2
 same-length-2 c = search needs

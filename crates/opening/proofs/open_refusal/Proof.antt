@@ -12,11 +12,14 @@ size-requires c κs = search needs
 or-size-requires : tie.Need-or-size-requires
 or-size-requires c κs = search needs
 
+or-size-requires-2 : tie.Need-or-size-requires-2
+or-size-requires-2 c κs = search needs
+
 cast-or-size : tie.Need-cast-or-size
 cast-or-size c = search needs
 
-or-size-requires-2 : tie.Need-or-size-requires-2
-or-size-requires-2 c κs = search needs
+or-size-requires-3 : tie.Need-or-size-requires-3
+or-size-requires-3 c κs = search needs
 
 or-elements-requires : tie.Need-or-elements-requires
 or-elements-requires c κs = search needs
@@ -30,6 +33,9 @@ beyond-requires c κs = search needs
 or-when-requires : tie.Need-or-when-requires
 or-when-requires c κs = search needs
 
+or-rounds-requires : tie.Need-or-rounds-requires
+or-rounds-requires c κs = search needs
+
 returns : tie.Need-returns
 returns c = cc
 
@@ -40,10 +46,12 @@ open-refusal-spec =
     limits-and-matrix-requires
     size-requires
     or-size-requires
-    cast-or-size
     or-size-requires-2
+    cast-or-size
+    or-size-requires-3
     or-elements-requires
     or-elements-requires-2
     beyond-requires
     or-when-requires
+    or-rounds-requires
     returns)

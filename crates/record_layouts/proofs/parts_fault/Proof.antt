@@ -25,7 +25,7 @@ returns c =
     let x = lists .before .before .args in
     let S = setupOf (x .s) [] in
     let s = x .part .now in
-    c .dealing-faults .ensures ∙ rw (c .before .dealing-at .ensures, lists .lists-fault .ensures) (sym (joined 0 (listRules (x .mark) (x .more) S s) (dealingFaults S (dealingAt s))))
+    c .dealing-faults .ensures ∙ rw (c .before .dealing-at .ensures, lists .lists-fault .ensures) (sym (joined 0 (listRules (x .mark) (x .many) (x .more) S s) (dealingFaults S (dealingAt s))))
 
 pub parts-fault-spec : {M : Type 1} → statement M
 parts-fault-spec = tie.close (tie.spec lists-fault-requires dealing-at-requires dealing-faults-requires returns)

@@ -1,9 +1,8 @@
--- g and h have d entries and get as many words.
+-- g has d entries and gets as many words, and h gets as many as it has entries.
 use Prim.Native.Nat.{_+_}
-use mathlib.Core.List.{[]}
 use mathlib.Core.Path.{ap, _∙_}
 use borrow.Author.Needs.{needs}
-use Rattle.scheme.specs.Setup.{dim, setupOf}
+use lib.ListN.{length}
 use Rattle.record_layouts.specs.Words.{wordsAt}
 use Rattle.record_reading.proofs.get_parts.Statement.{statement}
 use Rattle.record_reading.proofs.get_parts.Tie as tie
@@ -33,9 +32,7 @@ returns c =
     let s = x .part .now in
     let d = c .before .before .before .before .dim in (
       c .before .before .before .before .before .before .before .get-words .ensures ∙ ap (wordsAt s 3) (start .pre .0),
-      c .before .before .get-words2 .ensures
-          ∙ ap (wordsAt s (3 + d .result)) (start .pre .1)
-          ∙ ap (λ m. wordsAt s (3 + m) (dim (setupOf (x .s) []))) (d .ensures .0),
+      c .before .before .get-words2 .ensures ∙ ap (λ m. wordsAt s (3 + m) (length (x .h .now))) (d .ensures .0),
     )
 
 pub get-parts-spec : {M : Type 1} → statement M

@@ -11,7 +11,7 @@ use Rattle.scheme.specs.Setup.{dim, setupOf}
 use Rattle.base.proofs.Rules.{declined, unchanged, accepted, written}
 use Rattle.record_layouts.specs.Words.{wordsAt}
 use Rattle.record_layouts.specs.declared.DealingRecord.{DealingRecord}
-use Rattle.record_layouts.specs.Records.{mappedSize, readMappedRules}
+use Rattle.record_layouts.specs.Records.{partsH, mappedSize, readMappedRules}
 use Rattle.record_layouts.proofs.Calls.{mapped-room}
 use Rattle.record_reading.proofs.read_mapped_dealing.Statement.{statement}
 use Rattle.record_reading.proofs.read_mapped_dealing.Tie as tie
@@ -37,7 +37,7 @@ returns c =
     (rw (← e) (declined _ _ t), (rw (← e) (unchanged _ _ _ t), (rw (← e) (unchanged _ _ _ t), rw (← e) (unchanged _ _ _ t))))
 
 get-parts-requires : tie.Need-get-parts-requires
-get-parts-requires c κs = let k = room (c .before .before) in (k .0, k .1, omega (arith, k .3))
+get-parts-requires c κs = let k = room (c .before .before) in (k .0, omega (arith, k .1, k .3))
 
 dim-requires : tie.Need-dim-requires
 dim-requires c κs = search needs
@@ -74,7 +74,7 @@ returns-2 c =
       (
         written _ _ _ _ z (p .0),
         (
-          written _ _ _ _ z (p .1),
+          written _ _ _ _ z (p .1 ∙ ap (λ k. partsH k (setupOf (x .s) []) (x .part .now)) (room w .1)),
           written _ _ _ _ z
               (c .before .before .before .get-words .ensures
               ∙ ap (wordsAt (x .part .now) (3 + 2 * d .result)) (room w .2)

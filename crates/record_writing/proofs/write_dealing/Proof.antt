@@ -1,84 +1,45 @@
--- The rules of the table, in its order; where nothing is refused, the record's words fill the buffer just up.
--- is, none: the refusal, and that there is none
-use mathlib.Core.List.{[]}
-use mathlib.Core.Path.{_≡_, sym, _∙_}
+-- With d entries of h, and so in 6 + 2 * (d + d) bytes, what is written is DL.
+-- by: the layout under DL's mark, with a length and so many entries of h
+-- answer-is, left-is: with d entries the answer and the buffer are those of DL
+use Prim.Native.Nat.{ℕ, _+_, _*_}
+use mathlib.Core.List.{List, []}
+use mathlib.Core.Path.{_≡_, ap, _∙_}
 use native.Mathlib.Omega.{arith}
 use borrow.Author.Needs.{needs}
-use lib.ListN.{length, length-append}
-use Rattle.base.specs.Rules.{refusal}
-use Rattle.base.proofs.Rules.{declined, unchanged, accepted, written}
-use Rattle.scheme.specs.Setup.{setupOf}
-use Rattle.record_layouts.specs.Records.{writeRules, parts, dealingLayout}
-use Rattle.record_layouts.proofs.Layouts.{wrote, filled, dealing-lawful}
+use Rattle.scheme.specs.Setup.{Setup, dim, setupOf}
+use Rattle.record_layouts.specs.Records.{Layout, DealingParts, parts, partsLayoutOf, dealingLayout, writeCall, writeLeft, markDL}
 use Rattle.record_writing.proofs.write_dealing.Statement.{statement}
 use Rattle.record_writing.proofs.write_dealing.Tie as tie
 
-is : (c : tie.After-dealing-faults) → let x = c .before .before .before .before .before .before .before .before .args in
-    c .dealing-faults .result ≡ refusal (writeRules dealingLayout (setupOf (x .s) []) (parts (x .x) (x .g .now) (x .h .now)) (length (x .out .now)))
-is c = cc
+abbrev by : ℕ → ℕ → Layout DealingParts
+by size many = partsLayoutOf markDL (λ S. size) (λ S. many)
 
-none : (c : tie.Else1) → let x = c .before .before .before .before .before .before .before .before .before .args in
-    refusal (writeRules dealingLayout (setupOf (x .s) []) (parts (x .x) (x .g .now) (x .h .now)) (length (x .out .now))) ≡ 0
-none c = sym (is (c .before)) ∙ c .if1 .left
+module _ (S : Setup) (x : DealingParts) (out : List ℕ) (d : ℕ) (e : d ≡ dim S) where
+  answer-is : writeCall (by (6 + 2 * (dim S + d)) d) S x out ≡ writeCall dealingLayout S x out
+  answer-is =
+      ap (λ k. writeCall (by (6 + 2 * (dim S + k)) k) S x out) e ∙ ap (λ n. writeCall (by n (dim S)) S x out) (omega arith)
+
+  left-is : writeLeft (by (6 + 2 * (dim S + d)) d) S x out ≡ writeLeft dealingLayout S x out
+  left-is =
+      ap (λ k. writeLeft (by (6 + 2 * (dim S + k)) k) S x out) e ∙ ap (λ n. writeLeft (by n (dim S)) S x out) (omega arith)
 
 dim-requires : tie.Need-dim-requires
 dim-requires c κs = search needs
 
-mul-lengths-refusal : tie.Need-mul-lengths-refusal
-mul-lengths-refusal c = search needs
-
-add-lengths-refusal : tie.Need-add-lengths-refusal
-add-lengths-refusal c = search needs
-
-lengths-refusal-requires : tie.Need-lengths-refusal-requires
-lengths-refusal-requires c κs = search needs
-
-or-elements-requires : tie.Need-or-elements-requires
-or-elements-requires c κs = search needs
-
-or-elements-requires-2 : tie.Need-or-elements-requires-2
-or-elements-requires-2 c κs = search needs
-
-dealing-faults-requires : tie.Need-dealing-faults-requires
-dealing-faults-requires c κs = search needs
-
-returns : tie.Need-returns
-returns c =
-    let e = is (c .before) in
-    (rw (← e) (declined _ _ (c .if1 .taken)), rw (← e) (unchanged _ _ _ (c .if1 .taken)))
-
-put-dealing-requires : tie.Need-put-dealing-requires
-put-dealing-requires c κs =
-    let x = c .before .before .before .before .before .before .before .before .before .before .args in
-    let w = wrote dealingLayout dealing-lawful (setupOf (x .s) []) (parts (x .x) (x .g .now) (x .h .now)) (length (x .out .now)) (none (c .before)) in
-    omega (arith, w .fills, length-append (x .g .now) (x .h .now))
+write-parts-requires : tie.Need-write-parts-requires
+write-parts-requires c κs = search needs
 
 same-length : tie.Need-same-length
 same-length c = search needs
 
-returns-2 : tie.Need-returns-2
-returns-2 c =
-    let w = c .before .before .before .before in
-    let x = w .before .before .before .before .before .before .before .before .before .args in
-    let z = none w in (
-      accepted _ _ z,
-      written _ _ _ _ z
-          (c .before .before .put-dealing .ensures
-          ∙ filled dealingLayout dealing-lawful (setupOf (x .s) []) (parts (x .x) (x .g .now) (x .h .now)) (x .out .now) z),
-    )
+returns : tie.Need-returns
+returns c =
+    let x = c .before .before .before .before .before .before .before .before .args in
+    let S = setupOf (x .s) [] in
+    let y = parts (x .x) (x .g .now) (x .h .now) in
+    let d = c .before .before .before .before .dim in
+    let e = c .before .before .write-parts .ensures in
+    (e .0 ∙ answer-is S y (x .out .now) (d .result) (d .ensures .0), e .1 ∙ left-is S y (x .out .now) (d .result) (d .ensures .0))
 
 pub write-dealing-spec : {M : Type 1} → statement M
-write-dealing-spec =
-    tie.close
-    (tie.spec
-    dim-requires
-    mul-lengths-refusal
-    add-lengths-refusal
-    lengths-refusal-requires
-    or-elements-requires
-    or-elements-requires-2
-    dealing-faults-requires
-    returns
-    put-dealing-requires
-    same-length
-    returns-2)
+write-dealing-spec = tie.close (tie.spec dim-requires write-parts-requires same-length returns)

@@ -24,17 +24,17 @@ map-len-requires c κs = search needs
 dim-requires : tie.Need-dim-requires
 dim-requires c κs = search needs
 
-mul-lengths-refusal : tie.Need-mul-lengths-refusal
-mul-lengths-refusal c = search needs
+mul-needed : tie.Need-mul-needed
+mul-needed c = search needs
 
-add-lengths-refusal : tie.Need-add-lengths-refusal
-add-lengths-refusal c = search needs
+add-needed : tie.Need-add-needed
+add-needed c = search needs
 
-mul-lengths-refusal-2 : tie.Need-mul-lengths-refusal-2
-mul-lengths-refusal-2 c = search needs
+mul-needed-2 : tie.Need-mul-needed-2
+mul-needed-2 c = search needs
 
-add-lengths-refusal-2 : tie.Need-add-lengths-refusal-2
-add-lengths-refusal-2 c = search needs
+add-needed-2 : tie.Need-add-needed-2
+add-needed-2 c = search needs
 
 lengths-refusal-requires : tie.Need-lengths-refusal-requires
 lengths-refusal-requires c κs = search needs
@@ -82,10 +82,10 @@ write-mapped-dealing-spec =
     (tie.spec
     map-len-requires
     dim-requires
-    mul-lengths-refusal
-    add-lengths-refusal
-    mul-lengths-refusal-2
-    add-lengths-refusal-2
+    mul-needed
+    add-needed
+    mul-needed-2
+    add-needed-2
     lengths-refusal-requires
     or-size-requires
     or-elements-requires
