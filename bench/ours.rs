@@ -168,6 +168,9 @@ pub fn read_share(s: Params, part: &[u8], x: &mut [u16; 5]) -> u16 {
     let [dealing, holder, column, value, round] = x;
     unsafe { mavdrusek_read_share(s.p, s.l, s.e, s.n, part.as_ptr(), part.len(), dealing, holder, column, value, round) }
 }
+pub fn superseding(s: Params, first: &[u8], second: &[u8], which: &mut u16) -> u16 {
+    unsafe { mavdrusek_superseding(s.p, s.l, s.e, s.n, first.as_ptr(), first.len(), second.as_ptr(), second.len(), which) }
+}
 pub fn read_file(file: &[u8], contents: &mut [u16], byte: &mut usize) -> u16 {
     unsafe { mavdrusek_read_file(file.as_ptr(), file.len(), contents.as_mut_ptr(), contents.len(), byte) }
 }

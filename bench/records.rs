@@ -167,6 +167,26 @@ pub fn records(t: &mut Table, w: &World) {
             give(look, || of(&r, &[]), r.number)
         },
     );
+    // The same share at the next round, in turn the second record and the first.
+    let newer = made(12, &|k, out| {
+        let [dealing, holder, column, value, round] = share(k);
+        reference::write_share(s, [dealing, holder, column, (value + 1) % s.p, round + 1], out)
+    });
+    let pair = |k: usize| if k % 2 == 0 { (&written[k], &newer[k]) } else { (&newer[k], &written[k]) };
+    let mut which = 0;
+    t.line(
+        &name("superseding"),
+        |k, look| {
+            let (first, second) = pair(k);
+            let r = ours::superseding(s, first, second, &mut which);
+            give(look, || digest(r, &[which]), r | which)
+        },
+        |k, look| {
+            let (first, second) = pair(k);
+            let r = reference::superseding(s, first, second);
+            give(look, || of(&r, &[]), r.values[0])
+        },
+    );
 }
 
 /// The records of a second dealing.

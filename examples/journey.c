@@ -1,6 +1,6 @@
 /* The journey of one board key: dealt to 16 holders, judged by all of them, kept, combined, opened by seven, its shares refreshed by a zero dealing and
- * opened again; then a dealer that lies; then twin boards, whose keys are tied by a public map. Exit status 1 when anything is not as expected. To build
- * and run, in the repository's folder:
+ * opened again, two slips for one share settled; then a dealer that lies; then twin boards, whose keys are tied by a public map. Exit status 1 when anything
+ * is not as expected. To build and run, in the repository's folder:
  *
  *   rt staticlib c_api
  *   cc -Wall -Wextra -O2 -Iinclude -o target/journey examples/journey.c target/staticlib/libc_api.a && target/journey
@@ -110,8 +110,8 @@ static uint16_t open_key(uint32_t set, uint8_t *key, uint16_t *position)
     return mavdrusek_open_key(set, handed, count, handed_rounds, count, key, KEY, position);
 }
 
-/* The records of a holder's file, by their lengths, and the numbers that it is read into. */
-enum { SU = 10 + 2 * N * D, DL = 6 + 4 * D, DF = DL + 2 * KEY, DZ = 6 + 2 * D + 2 * E, PV = 10, PF = PV, VD = 8, CONTENTS = 27 };
+/* The records of a holder's file and the SH, by their lengths, and the numbers that a file is read into. */
+enum { SU = 10 + 2 * N * D, DL = 6 + 4 * D, DF = DL + 2 * KEY, DZ = 6 + 2 * D + 2 * E, PV = 10, PF = PV, VD = 8, SH = 12, CONTENTS = 27 };
 
 /* What a file is of, as its contents have it: a dealing, twin boards, or a zero dealing. */
 enum kind { PLAIN, TWIN, ZEROS };
@@ -227,8 +227,16 @@ static void refresh_shares(const uint8_t *key, uint32_t seven)
     printf("refreshed: holder 3's shares at round %d are %d %d %d %d; opened by seven: \"%.*s\"\n", rounds[3][0], shares[3][0], shares[3][1],
            shares[3][2], shares[3][3], KEY, (char *)opened);
 
+    /* Two slips for one share in a drawer, the copied one and the fresh one: the fresh one supersedes, whichever comes first. */
+    uint8_t old_slip[SH], fresh_slip[SH];
+    uint16_t which, fresh = shares[5][0];
+    expect(mavdrusek_write_share(SETUP, DEALING, 5, 0, copied, copied_round, old_slip, SH) == 0, "the old SH");
+    expect(mavdrusek_write_share(SETUP, DEALING, 5, 0, fresh, rounds[5][0], fresh_slip, SH) == 0, "the fresh SH");
+    expect(mavdrusek_superseding(SETUP, old_slip, SH, fresh_slip, SH, &which) == 0 && which == 2, "the second supersedes");
+    expect(mavdrusek_superseding(SETUP, fresh_slip, SH, old_slip, SH, &which) == 0 && which == 1, "the first supersedes");
+    printf("two slips for holder 5's share of column 0: the one at round %d supersedes\n", rounds[5][0]);
+
     /* The copied share among the fresh ones: its round is another, and under their round it is a false share. */
-    uint16_t fresh = shares[5][0];
     memcpy(opened, untouched, KEY);
     shares[5][0] = copied;
     rounds[5][0] = copied_round;

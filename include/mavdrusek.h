@@ -11,7 +11,7 @@
  *
  * Every function returns 0, or the number of the one refusal. After a refusal every lent buffer and every place keeps its contents, but for one place:
  * refusal 6 of mavdrusek_open and mavdrusek_open_key gives its position, and a refusal of a holder's file the byte where the faulty record starts.
- * The lowest number that applies is given, but 18 and 19 come after 5 and before 6:
+ * The lowest number that applies is given, but 18 and 19 come after 5 and before 6, and 21 before 20:
  *   1  p is none of the five
  *   2  l, e or n beyond its limits
  *   3  a length is not the one needed, over 64 terms, or a record is cut short
@@ -32,6 +32,8 @@
  *  17  in a file: a PV, PF or VD that is not the next one due
  *  18  a refresh of a share at round 65535, which is the last
  *  19  shares combined or opened together whose rounds differ, in a board key those of one column
+ *  20  two SH of one share with equal rounds and unequal values
+ *  21  two SH of different dealings, holders or columns, or of combinations
  * A reader tests the setup and the buffers that it is lent, then the mark, then the length, then the rest. (mavdrusek_read_setup_matrix knows the length
  * needed only from the record, and tests its buffer after the record's length.) In a file the first faulty record decides, and in it the mark, then the
  * length, then the lowest number; 11 and 13 come last. docs/RECORDS.md has the layout of every record.
@@ -269,6 +271,13 @@ uint16_t mavdrusek_read_verdict(uint16_t p, uint16_t l, uint16_t e, uint16_t n, 
 /* An SH with its round; one that ends before it is cut short, 3. Refusals 1 to 5, 8. */
 uint16_t mavdrusek_read_share(uint16_t p, uint16_t l, uint16_t e, uint16_t n, const uint8_t *part, size_t part_len, uint16_t *dealing,
                               uint16_t *holder, uint16_t *column, uint16_t *value, uint16_t *round);
+
+/* Which of two SH of one share counts, that is, of the same dealing, holder and column: *which is 1 where the record at the start of `first` supersedes, or
+ * 2 where the one at the start of `second` does. It is the first 12 bytes of that slice, in the caller's own buffer; bytes behind either record are not
+ * looked at. The one with the higher round supersedes; with equal rounds and values it is the first. Refusals 1 to 5, 8, 21, 20: 1 and 2, then all that
+ * mavdrusek_read_share refuses in `first`, then all that it refuses in `second`, then 21, then 20. *which keeps its contents where the call is refused. */
+uint16_t mavdrusek_superseding(uint16_t p, uint16_t l, uint16_t e, uint16_t n, const uint8_t *first, size_t first_len, const uint8_t *second,
+                               size_t second_len, uint16_t *which);
 
 /* ---- The holder's file */
 

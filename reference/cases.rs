@@ -2,11 +2,13 @@
 //!
 //! A stored case is a head of 20 words (16 bits, low byte first): the call by its number in CALLS; nine numbers; the lengths of nine slices of words and of
 //! one of bytes. Behind it stand those slices, in this order. The numbers are p, ℓ, e, n; then a holder; or a set's low and high half and a position; or the
-//! fields of a record to be written, of an SH all five; or a share, its round and a zero share to be refreshed. The slices of words are in the order of the
-//! call's parameters, rounds right behind their shares. The slice of bytes is the record or file read, the buffer written, or a board key.
+//! fields of a record to be written, of an SH all five; or a share, its round and a zero share to be refreshed; or the length of the first of two slices of
+//! bytes. The slices of words are in the order of the call's parameters, rounds right behind their shares. The slice of bytes is the record or file read, the
+//! buffer written, or a board key; of the call that takes two slices of bytes it is both, one behind the other.
 //!
 //! What is stored of it is one line, a space after each number: the number returned, the places in the order of the call's parameters, then every slice that
-//! may be written. A place holds 7777 before the call. Of a holder's file the line has the number, the count and the byte, then its text.
+//! may be written. A place holds 7777 before the call. Of a holder's file the line has the number, the count and the byte, then its text. Of two SH it
+//! has the number and the place, then what the two proved calls beside the exported one give: the number once more, and the bytes of the part, if any.
 
 use reference::*;
 use std::fmt::Write;
@@ -38,7 +40,7 @@ const fn call(name: &'static str, refusals: &'static [u16], places: usize, eleme
     Call { name, refusals, places, elements, written, bytes }
 }
 
-pub const CALLS: [Call; 41] = [
+pub const CALLS: [Call; 42] = [
     call("points", &[1, 2, 3, 15], 0, &[], &[0], Bytes::None),
     call("deal", &[1, 2, 3, 4, 5], 0, &[0, 1, 2], &[3, 4], Bytes::None),
     call("deal to all", &[1, 2, 3, 4], 0, &[0, 1, 2], &[3, 4], Bytes::None),
@@ -80,6 +82,7 @@ pub const CALLS: [Call; 41] = [
     call("refresh", &[1, 4, 18], 2, &[], &[], Bytes::None),
     call("write DZ", &[1, 2, 3, 4, 5, 9], 0, &[0, 1], &[], Bytes::Written),
     call("read DZ", &[1, 2, 3, 4, 5, 8, 9], 2, &[], &[0, 1], Bytes::Read),
+    call("superseding SH", &[1, 2, 3, 4, 5, 8, 20, 21], 1, &[], &[], Bytes::Read),
 ];
 
 pub const FILE: u16 = 12;
@@ -100,6 +103,7 @@ pub const JUDGE_ZERO: u16 = 37;
 pub const REFRESH: u16 = 38;
 pub const WRITE_DZ: u16 = 39;
 pub const READ_DZ: u16 = 40;
+pub const SUPERSEDING: u16 = 41;
 /// The calls of a second dealing tied by a map.
 pub const MAPPED: std::ops::RangeInclusive<u16> = DEAL_MAPPED..=READ_PF;
 /// The calls of a zero dealing, the refresh among them.
@@ -147,6 +151,10 @@ impl Case {
     }
     pub fn choose(&mut self, set: u32) {
         (self.numbers[4], self.numbers[5]) = (set as u16, (set >> 16) as u16);
+    }
+    /// The two slices of bytes of the call that takes two; the first is all there is where its length is more.
+    pub fn two_slices(&self) -> (&[u8], &[u8]) {
+        self.bytes.split_at(self.bytes.len().min(self.numbers[4] as usize))
     }
 
     /// The head, then the slices.
@@ -212,6 +220,10 @@ impl Case {
             (REFRESH, []) => refresh(s.p, x[4], x[5], x[6]),
             (WRITE_DZ, [g, h]) => write_zero_dealing(s, x[4], x[5], g, h, &mut bytes),
             (READ_DZ, [g, h]) => read_zero_dealing(s, &bytes, g, h),
+            (SUPERSEDING, []) => {
+                let (first, second) = self.two_slices();
+                superseding(s, first, second)
+            }
             _ => panic!("no such call: {self:?}"),
         };
         let places = (0..self.of().places).map(|k| answer.values.get(k).copied().unwrap_or(UNTOUCHED)).collect();
@@ -232,7 +244,17 @@ impl Case {
         }
         let after = self.run();
         let mut all = vec![after.number];
-        all.extend(after.places);
+        all.extend(&after.places);
+        if self.call == SUPERSEDING {
+            let (first, second) = self.two_slices();
+            let part = match after.places[0] {
+                1 => &first[..12],
+                2 => &second[..12],
+                _ => &[],
+            };
+            all.push(after.number);
+            all.extend(part.iter().map(|&b| b as u16));
+        }
         all.extend(self.of().written.iter().flat_map(|&k| &after.words[k]));
         if self.of().bytes == Bytes::Written {
             all.extend(after.bytes.iter().map(|&b| b as u16));

@@ -76,6 +76,10 @@ fn ours(case: &Case) -> After {
             (READ_DZ, [g, h]) => {
                 mavdrusek_read_zero_dealing(p, l, e, n, part, part_len, g.as_mut_ptr(), g.len(), h.as_mut_ptr(), h.len(), a, b)
             }
+            (SUPERSEDING, []) => {
+                let (first, second) = case.two_slices();
+                mavdrusek_superseding(p, l, e, n, first.as_ptr(), first.len(), second.as_ptr(), second.len(), a)
+            }
             _ => panic!("no such call: {case:?}"),
         }
     };

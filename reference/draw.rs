@@ -468,9 +468,35 @@ impl<'a> Draw<'a> {
                 let record = self.record(DZ);
                 c = writing(s, &record, self.r);
             }
+            SUPERSEDING => {
+                let parts = self.two_shares().map(|record| {
+                    let more = if self.r.chance(4) { 1 + self.r.below(12) } else { 0 };
+                    [bytes(&record), self.r.noise_bytes(more)].concat()
+                });
+                c = settling(s, &parts[0], &parts[1]);
+            }
             _ => {}
         }
         c
+    }
+
+    /// Two SH: the same one twice, or the second with another value, another round, or both; now and then of another share.
+    fn two_shares(&mut self) -> [Vec<u16>; 2] {
+        let (mut first, other) = (self.record(SH), self.record(SH));
+        first.push(self.r.round());
+        let mut second = first.clone();
+        if self.r.chance(2) {
+            second[4] = other[4];
+        }
+        if !self.r.chance(3) {
+            let any = self.r.round();
+            second[5] = self.r.one(&[first[5].wrapping_add(1), first[5].wrapping_sub(1), any]);
+        }
+        if self.r.chance(6) {
+            let k = 1 + self.r.below(3);
+            second[k] = other[k];
+        }
+        [first, second]
     }
 
     /// What some holder has received in a dealing with a map: now and then with wrong values, with a second h that is none, or under another map.
@@ -724,6 +750,13 @@ pub fn reading(s: Params, call: u16, record: &[u16], r: &mut Random) -> Case {
     Case { call, numbers: setup_numbers(s), words, bytes: bytes(record) }
 }
 
+/// The call on two parts: which of the two SH at their start supersedes.
+pub fn settling(s: Params, first: &[u8], second: &[u8]) -> Case {
+    let mut numbers = setup_numbers(s);
+    numbers[4] = first.len() as u16;
+    Case { call: SUPERSEDING, numbers, words: vec![], bytes: [first, second].concat() }
+}
+
 /// Sets word k of some bytes, if it is there.
 pub fn put(bytes: &mut [u8], k: usize, word: u16) {
     if let Some(at) = bytes.get_mut(2 * k..2 * k + 2) {
@@ -788,6 +821,29 @@ fn damage_key(r: &mut Random, c: &mut Case) {
     }
 }
 
+/// Breaks the call on two SH, in one of some ways: where the first part ends or both do, a mark, a field or a byte of either.
+fn damage_two(r: &mut Random, c: &mut Case, way: usize, limits: &[u16]) {
+    let from = r.one(&[0, c.two_slices().0.len()]);
+    match way {
+        2 => c.numbers[4] = r.one(&[0, 1, 10, 11, 12, 13, 24, 65535]),
+        3 => c.bytes.truncate(r.below(c.bytes.len() + 1)),
+        4 => {
+            let w = r.one(&[SU, DL, PV, VD, DF, PF, DZ, 0]);
+            put(&mut c.bytes[from..], 0, w);
+        }
+        5 => {
+            let k = r.below(c.bytes.len().max(1));
+            if let Some(b) = c.bytes.get_mut(k) {
+                *b = r.below(256) as u8;
+            }
+        }
+        _ => {
+            let (k, w) = (1 + r.below(5), r.one(limits));
+            put(&mut c.bytes[from..], k, w);
+        }
+    }
+}
+
 /// Breaks a case: a length, an element, a number, a set, a record or a file.
 fn damage(r: &mut Random, c: &mut Case) {
     if c.call == FILE {
@@ -801,6 +857,7 @@ fn damage(r: &mut Random, c: &mut Case) {
     match r.below(8) {
         0 => c.numbers[0] = r.one(&[0, 1, 3, 7, 257, 65520, 65535]),
         1 => c.numbers[1 + r.below(3)] = r.one(&[0, 1, 8, 9, 32, 33, 65535]),
+        way if c.call == SUPERSEDING => damage_two(r, c, way, &limits),
         2 => match r.below(c.words.len() + 1) {
             k if k < c.words.len() => resize(r, &mut c.words[k]),
             _ if c.of().bytes != Bytes::None => resize(r, &mut c.bytes),

@@ -7,6 +7,7 @@ mod edges;
 mod files;
 mod maps;
 mod rounds;
+mod superseding;
 mod zero_dealings;
 use cases::*;
 use draw::*;
@@ -78,6 +79,12 @@ fn stored() -> (Vec<u8>, String) {
             all.push(rounded(&mut r, c));
         }
         all.push(small(&mut r, round, with_zeros));
+    }
+    // two records of one share, from a seed of their own
+    let mut r = Random(20261124);
+    all.extend(superseding::cases(&mut r));
+    for _ in 0..40 {
+        all.push(draw(&mut r, SUPERSEDING));
     }
     let (mut input, mut output) = (vec![], String::new());
     let mut counts = vec![BTreeMap::new(); CALLS.len()];

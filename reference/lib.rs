@@ -1,4 +1,4 @@
-//! Document 01, with the requests of document 02 that have landed (A1 to A8), in plain safe Rust: every call and the holder's file, written from the
+//! Document 01, with the requests of document 02 that have landed (A1 to A9), in plain safe Rust: every call and the holder's file, written from the
 //! documents in the most direct way. It shares nothing with the proved library; the two are compared on many inputs.
 
 /// A refusal's number (0: none) and the values given beside it.
@@ -1000,12 +1000,32 @@ pub fn read_verdict(s: Params, part: &[u8]) -> Answer {
     })
 }
 
+/// The five fields of an SH whose mark was seen.
+fn share_fields(s: &Params, part: &[u8]) -> Result<[u16; 5], u16> {
+    let x = fields(part)?;
+    share_faults(s, x).check()?;
+    Ok(x)
+}
+
 /// The five fields of an SH.
 pub fn read_share(s: Params, part: &[u8]) -> Answer {
-    read(Faults::of(&s), part, SH, || {
-        let x = fields(part)?;
-        share_faults(&s, x).check()?;
-        Ok(x.to_vec())
+    read(Faults::of(&s), part, SH, || Ok(share_fields(&s, part)?.to_vec()))
+}
+
+/// Which of the two SH that two parts start with supersedes, 1 or 2: the one with the higher round, and the first of two that are alike. All that the reader
+/// refuses in the first comes before anything in the second, then 21, then 20.
+pub fn superseding(s: Params, first: &[u8], second: &[u8]) -> Answer {
+    read(Faults::of(&s), first, SH, || {
+        let [dealing, holder, column, value, round] = share_fields(&s, first)?;
+        expect(second, SH)?;
+        let [dealing2, holder2, column2, value2, round2] = share_fields(&s, second)?;
+        if (dealing, holder, column) != (dealing2, holder2, column2) || dealing == 0 || dealing2 == 0 {
+            return Err(21);
+        }
+        if round == round2 && value != value2 {
+            return Err(20);
+        }
+        Ok(vec![if round2 > round { 2 } else { 1 }])
     })
 }
 

@@ -1,6 +1,6 @@
 //! The journey of one board key: dealt to 16 holders, judged by all of them, kept, combined, opened by seven, its shares refreshed by a zero dealing and
-//! opened again; then a dealer that lies; then twin boards, whose keys are tied by a public map. Each step says what it found and stops the program if that
-//! is not what it should be (`cargo run --offline --example journey`).
+//! opened again, two slips for one share settled; then a dealer that lies; then twin boards, whose keys are tied by a public map. Each step says what it found
+//! and stops the program if that is not what it should be (`cargo run --offline --example journey`).
 
 use mavdrusek::*;
 
@@ -177,6 +177,16 @@ fn refresh_shares(matrix: &[u16], key: &Key, seven: u32, shares: &mut All, round
     assert!(again == *key);
     let text = String::from_utf8_lossy(again.as_bytes());
     println!("refreshed: holder 3's shares at round {} are {:?}; opened by seven: \"{text}\"", rounds[3][0], shares[3]);
+
+    // Two slips for one share in a drawer, the copied one and the fresh one: the fresh one supersedes, whichever comes first.
+    let slip = |value, round| {
+        let mut record = [0; SHARE_BYTES];
+        SETUP.write_share(&ShareRecord { dealing: 1, holder: 5, column: 0, value, round }, &mut record).map(|()| record)
+    };
+    let (old_slip, fresh_slip) = (slip(copied.value, copied.round)?, slip(shares[5][0], rounds[5][0])?);
+    assert!(SETUP.superseding(&old_slip, &fresh_slip)? == fresh_slip);
+    assert!(SETUP.superseding(&fresh_slip, &old_slip)? == fresh_slip);
+    println!("two slips for holder 5's share of column 0: the one at round {} supersedes", rounds[5][0]);
 
     // The copied share among the fresh ones: its round is another, and under their round it is a false share.
     let (mut mixed, mut mixed_rounds) = (*shares, *rounds);

@@ -20,7 +20,7 @@
 //! A copied drawer becomes worthless when its shares are refreshed: a zero dealing ([`Setup::deal_zero_all`]), whose columns all open to zeros, is dealt and
 //! judged, and every holder adds its shares to those of one dealing, column by column ([`refresh`]). The secrets stay, the shares are at the next round, and
 //! shares of different rounds are refused together. Each dealing takes a zero dealing of its own. A new dealing's shares have the round that its holders agree
-//! on, 0 if they start anew.
+//! on, 0 if they start anew. Where a drawer has two SH records of one share, [`Setup::superseding`] gives the one that counts.
 //!
 //! A board key is sixteen bytes over one fixed setup, [`BOARD`]: [`deal_key`] and [`open_key`] take and give it as a [`Key`].
 //!
@@ -86,8 +86,8 @@ pub const BOARD: Setup = Setup { p: 257, l: 4, e: 3, n: 16 };
 /// Bytes of a board key.
 pub const KEY_BYTES: usize = 16;
 
-/// Why a call declined. Where more than one applies, a call gives the one with the lowest number, but 18 and 19 come after 5 and before 6; a reader judges
-/// the setup it is given, then the mark, then the length, then the rest. Number 14 is retired: no call gives it, and it has no case here.
+/// Why a call declined. Where more than one applies, a call gives the one with the lowest number, but 18 and 19 come after 5 and before 6, and 21 before 20;
+/// a reader judges the setup it is given, then the mark, then the length, then the rest. Number 14 is retired: no call gives it, and it has no case here.
 #[derive(Clone, Copy, Debug, PartialEq, Eq, Hash)]
 pub enum Refusal {
     /// 1: p is none of the five primes.
@@ -130,6 +130,10 @@ pub enum Refusal {
     LastRound,
     /// 19: shares combined or opened together whose rounds differ, in a board key those of one column.
     Rounds,
+    /// 20: two SH of one share with equal rounds and unequal values.
+    UnequalValues,
+    /// 21: two SH of different dealings, holders or columns, or of combinations.
+    OtherShare,
 }
 
 impl Refusal {
@@ -154,6 +158,8 @@ impl Refusal {
             Refusal::Order => 17,
             Refusal::LastRound => 18,
             Refusal::Rounds => 19,
+            Refusal::UnequalValues => 20,
+            Refusal::OtherShare => 21,
         }
     }
 }
@@ -179,6 +185,8 @@ impl fmt::Display for Refusal {
             Refusal::Order => "a record is not the next one due",
             Refusal::LastRound => "round 65535 is the last",
             Refusal::Rounds => "the rounds of the shares differ",
+            Refusal::UnequalValues => "two records of one share at one round have unequal values",
+            Refusal::OtherShare => "the records are of different shares, or of combinations",
         };
         write!(f, "refused {}: {why}", self.number())
     }
@@ -208,6 +216,8 @@ fn answer(number: u16, position: u16) -> Result<(), Refusal> {
         17 => Refusal::Order,
         18 => Refusal::LastRound,
         19 => Refusal::Rounds,
+        20 => Refusal::UnequalValues,
+        21 => Refusal::OtherShare,
         other => unreachable!("the linked library gave {other}, which no call gives"),
     })
 }
@@ -1190,6 +1200,33 @@ impl Setup {
         };
         answer(number, 0)?;
         Ok(ShareRecord { dealing, holder, column, value, round })
+    }
+
+    /// Which of two SH of one share counts: the one with the higher round, and with equal rounds and values the first. What is given is that record's own
+    /// bytes, the first [`SHARE_BYTES`] of `first` or of `second`. After 1 and 2 comes all that [`Setup::read_share`] refuses in `first`, then all that it
+    /// refuses in `second`, then 21, then 20. Refusals 1 to 5, 8, 20, 21.
+    ///
+    /// ```
+    /// use mavdrusek::{Refusal, Setup};
+    ///
+    /// // Two slips for holder 2's share of column 0 of dealing 1: the value 4 at round 0, and 0 at round 1.
+    /// let setup = Setup { p: 7, l: 1, e: 1, n: 3 };
+    /// let (old, new) = (b"SH\x01\0\x02\0\0\0\x04\0\0\0", b"SH\x01\0\x02\0\0\0\0\0\x01\0");
+    /// assert_eq!(setup.superseding(old, new)?, new);
+    /// assert_eq!(setup.superseding(new, old)?, new);
+    ///
+    /// // Holder 1's is another share.
+    /// assert_eq!(setup.superseding(b"SH\x01\0\x01\0\0\0\x04\0\0\0", new), Err(Refusal::OtherShare));
+    /// # Ok::<(), Refusal>(())
+    /// ```
+    pub fn superseding<'a>(&self, first: &'a [u8], second: &'a [u8]) -> Result<&'a [u8], Refusal> {
+        let Setup { p, l, e, n } = *self;
+        let mut which = 0;
+        let number =
+            unsafe { raw::mavdrusek_superseding(p, l, e, n, first.as_ptr(), first.len(), second.as_ptr(), second.len(), &mut which) };
+        answer(number, 0)?;
+        // The call answers only where both records are whole.
+        Ok(&(if which == 2 { second } else { first })[..SHARE_BYTES])
     }
 }
 

@@ -463,6 +463,17 @@ unsafe extern "C" {
         value: *mut u16,
         round: *mut u16,
     ) -> u16;
+    pub fn mavdrusek_superseding(
+        p: u16,
+        l: u16,
+        e: u16,
+        n: u16,
+        first: *const u8,
+        first_len: usize,
+        second: *const u8,
+        second_len: usize,
+        which: *mut u16,
+    ) -> u16;
     pub fn mavdrusek_read_file(file: *const u8, file_len: usize, contents: *mut u16, contents_len: usize, byte: *mut usize) -> u16;
     pub fn mavdrusek_holder_file(
         file: *const u8,

@@ -130,6 +130,58 @@ fn share() {
     }
 }
 
+fn slip(value: u16, round: u16) -> [u8; SHARE_BYTES] {
+    let mut out = [0; SHARE_BYTES];
+    SETUP.write_share(&ShareRecord { dealing: 9, holder: 3, column: 1, value, round }, &mut out).unwrap();
+    out
+}
+
+/// What supersedes is given where it stands: as the first bytes of the slice that was lent.
+fn supersedes(first: &[u8], second: &[u8], expected: &[u8]) {
+    let found = SETUP.superseding(first, second).unwrap();
+    assert_eq!((found.as_ptr(), found.len()), (expected.as_ptr(), SHARE_BYTES));
+}
+
+#[test]
+fn superseding() {
+    for (before, after) in [(0, 1), (255, 256), (0, 65535), (65534, 65535)] {
+        for value in [0, 256] {
+            let (old, new) = (slip(256, before), slip(value, after));
+            let (longer_old, longer_new) = (followed(&old), followed(&new));
+            for (old, new) in [(&old[..], &new[..]), (&longer_old, &new), (&old, &longer_new), (&longer_old, &longer_new)] {
+                supersedes(old, new, new);
+                supersedes(new, old, new);
+            }
+        }
+    }
+    // Two that are alike: the first.
+    let (one, same) = (slip(5, 2), slip(5, 2));
+    supersedes(&one, &same, &one);
+    supersedes(&same, &one, &same);
+    supersedes(&one, &one, &one);
+}
+
+/// A newer record behind the first is no record of the call, unless it is lent as the second.
+#[test]
+fn superseding_behind() {
+    let both = [slip(5, 2), slip(6, 3)].concat();
+    supersedes(&both, &slip(4, 1), &both);
+    supersedes(&both, &both[..SHARE_BYTES], &both);
+    supersedes(&both, &both[SHARE_BYTES..], &both[SHARE_BYTES..]);
+    assert_eq!(SETUP.superseding(&both, &[]), Err(Refusal::Length));
+}
+
+/// Three drawers come to one record, whichever two are settled first.
+#[test]
+fn superseding_of_three() {
+    for [a, b, c] in [[1, 2, 3], [1, 3, 2], [2, 1, 3], [2, 3, 1], [3, 1, 2], [3, 2, 1], [1, 1, 2], [2, 1, 1], [2, 1, 2], [2, 2, 2]] {
+        let [a, b, c] = [a, b, c].map(|round| slip(10 * round, round));
+        let left = SETUP.superseding(SETUP.superseding(&a, &b).unwrap(), &c).unwrap();
+        let right = SETUP.superseding(&a, SETUP.superseding(&b, &c).unwrap()).unwrap();
+        assert_eq!(left.as_ptr(), right.as_ptr());
+    }
+}
+
 /// Types that carry keys, shares or pair values are neither printed by `{:?}` nor copied in passing.
 #[test]
 fn not_printed_not_copied() {

@@ -63,6 +63,8 @@ fn numbers() {
         (Refusal::Order, 17),
         (Refusal::LastRound, 18),
         (Refusal::Rounds, 19),
+        (Refusal::UnequalValues, 20),
+        (Refusal::OtherShare, 21),
     ];
     for (refusal, number) in all {
         assert_eq!(refusal.number(), number);
@@ -85,6 +87,7 @@ fn no_field() {
     let wrong = Setup { p: 0, l: 0, e: 65535, n: 65535 };
     assert_eq!(wrong.points(&mut []), Err(Refusal::NoField));
     assert_eq!(wrong.open(&[], 0, &NO_SHARES, &mut []), Err(Refusal::NoField));
+    assert_eq!(wrong.superseding(&[], &[]), Err(Refusal::NoField));
 }
 
 #[test]
@@ -113,6 +116,7 @@ fn limits() {
         assert_eq!(wrong.open(&[], 0, &NO_SHARES, &mut []), Err(Refusal::Limits));
         assert_eq!(wrong.write_setup(&[], &mut []), Err(Refusal::Limits));
         assert_eq!(wrong.read_verdict(&[]), Err(Refusal::Limits));
+        assert_eq!(wrong.superseding(&[], &[]), Err(Refusal::Limits));
     }
 }
 
@@ -158,6 +162,7 @@ fn empty_slices() {
     assert_eq!(SETUP.read_mapped_pair_value(&[]).err(), Some(Refusal::Length));
     assert_eq!(SETUP.read_verdict(&[]), Err(Refusal::Length));
     assert_eq!(SETUP.read_share(&[]).err(), Some(Refusal::Length));
+    assert_eq!(SETUP.superseding(&[], &[]), Err(Refusal::Length));
     assert_eq!(read_file(&[]).err(), Some(FileRefusal { refusal: Refusal::Missing, byte: Some(0) }));
 }
 
@@ -387,4 +392,62 @@ fn zero_records() {
     assert_eq!(SETUP.read_zero_dealing(high, &mut g, &mut [9; 2]), Err(Refusal::Length));
     assert_eq!(SETUP.read_zero_dealing(b"DL", &mut g, &mut h), Err(Refusal::Mark));
     assert_eq!((g, h), ([9; 2], [9]));
+}
+
+/// The bytes of an SH that may break the rules: dealing, holder, column, value and round.
+fn slip(fields: [u16; 5]) -> Vec<u8> {
+    [b"SH".to_vec(), fields.iter().flat_map(|x| x.to_le_bytes()).collect()].concat()
+}
+
+/// 21 by each field and by a combination in either record, whatever the rounds and values; 20 at one round only.
+#[test]
+fn superseding() {
+    let setup = Setup { l: 2, ..SETUP };
+    let one = slip([9, 1, 1, 3, 5]);
+    let with = |first: &[u8], fields| setup.superseding(first, &slip(fields)).map(|found| found.len());
+    assert_eq!(with(&one, [9, 1, 1, 3, 5]), Ok(SHARE_BYTES));
+    assert_eq!(with(&one, [9, 1, 1, 4, 5]), Err(Refusal::UnequalValues));
+    assert_eq!(with(&one, [9, 1, 1, 4, 6]), Ok(SHARE_BYTES));
+    for (value, round) in [(3, 5), (4, 5), (3, 6), (4, 4)] {
+        for [dealing, holder, column] in [[8, 1, 1], [265, 1, 1], [9, 2, 1], [9, 1, 0], [8, 0, 0], [0, 1, 0]] {
+            assert_eq!(with(&one, [dealing, holder, column, value, round]), Err(Refusal::OtherShare));
+            assert_eq!(with(&slip([dealing, holder, column, value, round]), [9, 1, 1, 3, 5]), Err(Refusal::OtherShare));
+        }
+        // Of a combination there is no record that counts, though the two are alike.
+        assert_eq!(with(&slip([0, 1, 0, 3, 5]), [0, 1, 0, value, round]), Err(Refusal::OtherShare));
+    }
+}
+
+/// All that is wrong in the first record comes before all in the second, and both before 21 and 20.
+#[test]
+fn superseding_in_order() {
+    let setup = Setup { l: 2, ..SETUP };
+    let one = slip([9, 1, 1, 3, 5]);
+    let faulty = [
+        (b"S".to_vec(), Refusal::Length),
+        (b"DL".to_vec(), Refusal::Mark),
+        (one[..11].to_vec(), Refusal::Length),
+        (slip([9, 3, 2, 7, 5]), Refusal::Element),
+        (slip([9, 3, 1, 3, 5]), Refusal::Range),
+        (slip([9, 1, 2, 3, 5]), Refusal::Range),
+        (slip([0, 1, 1, 3, 5]), Refusal::Range),
+    ];
+    let (unequal, other) = (slip([9, 1, 1, 4, 5]), slip([8, 2, 0, 4, 5]));
+    for (part, refusal) in &faulty {
+        for sound in [&one, &unequal, &other] {
+            assert_eq!(setup.superseding(part, sound), Err(*refusal));
+            assert_eq!(setup.superseding(sound, part), Err(*refusal));
+        }
+        for (second, _) in &faulty {
+            assert_eq!(setup.superseding(part, second), Err(*refusal));
+        }
+    }
+    for size in 0..SHARE_BYTES {
+        assert_eq!(setup.superseding(&one[..size], &one), Err(Refusal::Length));
+        assert_eq!(setup.superseding(&one, &one[..size]), Err(Refusal::Length));
+    }
+    // Nothing behind a record mends it, and nothing behind a sound one spoils it.
+    let behind = [&one[..11], &one].concat();
+    assert_eq!(setup.superseding(&behind[..11], &one), Err(Refusal::Length));
+    assert_eq!(setup.superseding(&[&one[..], b"DL"].concat(), &[&one[..], &[0xff; 12]].concat()), Ok(&one[..]));
 }

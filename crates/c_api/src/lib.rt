@@ -18,6 +18,7 @@ ghost use Rattle.record_layouts.specs.Records.{writeVerdictCall, writeVerdictLe
 ghost use Rattle.record_layouts.specs.Records.{readSetupCall, readMatrixCall, readMatrixLeft, readDealingCall, readDealingLeftG, readDealingLeftH};
 ghost use Rattle.record_layouts.specs.Records.{readMappedCall, readMappedLeftG, readMappedLeftH, readMappedLeftPhi, readMappedPairCall};
 ghost use Rattle.record_layouts.specs.Records.{readPairCall, readVerdictCall, readShareCall};
+ghost use Rattle.superseding.specs.Superseding.{supersedingCall};
 ghost use Rattle.holder_file.specs.Calls.{fileContentsCall, fileContentsLeft, holderFileCall, holderFileLeft};
 ghost use Rattle.set_questions.specs.Buffer.{SetBuffer};
 ghost use Rattle.c_api.specs.Exported.{setup, place, namedPlace, answeredPlace, refusedPlace};
@@ -45,6 +46,7 @@ use scheme::SetJudged;
 use scheme::Settled;
 use scheme::Share;
 use scheme::Value;
+use superseding::Superseding;
 
 // Whether p is one of the five fields' numbers.
 #[no_mangle]
@@ -980,6 +982,33 @@ pub extern "C" fn mavdrusek_read_share(
             0
         }
         ShareRead::Refused(k) => k,
+    }
+}
+
+// Which of two SH of one share supersedes, 1 or 2.
+#[no_mangle]
+pub extern "C" fn mavdrusek_superseding(
+    p: u16,
+    l: u16,
+    e: u16,
+    n: u16,
+    first: &[u8],
+    second: &[u8],
+    which: &mut u16,
+) -> u16
+    ensures answer { λ r. ⌜ r ≡ supersedingCall (setup p l e n []) (now (first .entry)) (now (second .entry)) .number ⌝ }
+    ensures which { λ r. ⌜ now (which .exit) ≡ place 0 (supersedingCall (setup p l e n []) (now (first .entry)) (now (second .entry))) (now (which .entry)) ⌝ }
+{
+    match superseding::superseding_record(Params { p, l, e, n }, first, second) {
+        Superseding::First => {
+            *which = 1;
+            0
+        }
+        Superseding::Second => {
+            *which = 2;
+            0
+        }
+        Superseding::Refused(k) => k,
     }
 }
 

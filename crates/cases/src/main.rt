@@ -6,6 +6,7 @@ ghost use Prim.Native.Nat.{_≤_};
 ghost use lib.ListN.{length};
 use libc::STDIN_FILENO;
 use libc::STDOUT_FILENO;
+use scheme::Params;
 
 // PRINTING
 fn print(x: u16) {
@@ -739,6 +740,22 @@ fn reading_call(
     }
 }
 
+// Which of two SH supersedes. They stand one behind the other, the first in k bytes, or in all where there are fewer. Behind the exported call's
+// answer come the number and the part that the two calls beside it give.
+fn superseding_call(p: u16, l: u16, e: u16, n: u16, k: usize, both: &[u8]) {
+    let len = if k <= both.len() { k } else { both.len() };
+    let first = &both[..len];
+    let second = &both[len..];
+    let mut x: u16 = 7777;
+    let number = c_api::mavdrusek_superseding(p, l, e, n, first, second, &mut x);
+    two(
+        number,
+        x,
+        superseding::superseding_refusal(Params { p, l, e, n }, first, second),
+    );
+    print_bytes(superseding::superseding_part(Params { p, l, e, n }, first, second));
+}
+
 fn write(text: &[u8], count: usize) {
     if count <= text.len() {
         io::write_all(STDOUT_FILENO, &text[..count]);
@@ -803,6 +820,7 @@ fn call(
             writing_call(k[0], p, l, e, n, x, y, z, k[8], k[9], a, b, c, bytes)
         }
         18..=23 | 33..=34 | 40 => reading_call(k[0], p, l, e, n, bytes, a, b, c),
+        41 => superseding_call(p, l, e, n, bytes_len(x), bytes),
         _ => opening_call(k[0], p, l, e, n, set(x, y), z, a, b, c, d),
     }
 }

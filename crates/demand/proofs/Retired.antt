@@ -33,6 +33,7 @@ use Rattle.file_records.specs.Received.{records, place, pairRules, pairFault, v
 use Rattle.file_records.proofs.Reading.{record-by}
 use Rattle.file_reading.specs.Contents.{Contents, columns, partLayout, judgement, verdictOf}
 use Rattle.file_reading.specs.File.{FileRead, refusedAt, whole, setupFault, hasZero, dealingFault, hasMap, mappedRules, mappedFault, firstByte, start, headOf, ofContents, orRefused, ofReceived, ofMapped, ofDealing, readFile, numberOf}
+use Rattle.superseding.specs.Superseding.{supersedingRules}
 use Rattle.holder_file.specs.Text.{textOf}
 use Rattle.holder_file.specs.Calls.{fileAnswer, lentFile}
 use Rattle.demand.specs.Retired.{retired, NotGiven, NeverGiven}
@@ -174,6 +175,7 @@ never-given =
       read-verdict = λ S s. answers (readRules verdictLayout S [] s) _ tt (given-given _);
       write-share = λ S x out. answers (writeRules shareLayout S x (length out)) _ tt (given-given []);
       read-share = λ S s. answers (readRules shareLayout S [] s) _ tt (given-given _);
+      superseding = λ S a b. answers (supersedingRules S a b) _ tt (given-given _);
       file-text = λ s out. answer-by (lentFile s out 512) _ tt (read-answer (λ C. length (textOf C) ∷ []) (readFile s) (file-reads s));
       file-contents = λ s out. answer-by (lentFile s out 27) _ tt (read-answer (λ C. []) (readFile s) (file-reads s));
     }

@@ -16,6 +16,7 @@ use Rattle.record_layouts.specs.declared.PairRecord.{PairRecord}
 use Rattle.record_layouts.specs.declared.VerdictRecord.{VerdictRecord}
 use Rattle.record_layouts.specs.declared.ShareRecord.{ShareRecord}
 use Rattle.record_layouts.specs.Records.{writeSetupCall, readSetupCall, readMatrixCall, writeDealingCall, readDealingCall, writeMappedCall, readMappedCall, writeZeroCall, readZeroCall, writePairCall, readPairCall, writeMappedPairCall, readMappedPairCall, writeVerdictCall, readVerdictCall, writeShareCall, readShareCall}
+use Rattle.superseding.specs.Superseding.{supersedingCall}
 use Rattle.holder_file.specs.Calls.{holderFileCall, fileContentsCall}
 
 abbrev pub retired : ℕ
@@ -67,6 +68,7 @@ pub record NeverGiven : Type 0 where
   pub read-verdict : (S : Setup) (s : List ℕ) → NotGiven (readVerdictCall S s)
   pub write-share : (S : Setup) (x : ShareRecord) (out : List ℕ) → NotGiven (writeShareCall S x out)
   pub read-share : (S : Setup) (s : List ℕ) → NotGiven (readShareCall S s)
+  pub superseding : (S : Setup) (a b : List ℕ) → NotGiven (supersedingCall S a b)
   -- files
   pub file-text : (s out : List ℕ) → NotGiven (holderFileCall s out)
   pub file-contents : (s out : List ℕ) → NotGiven (fileContentsCall s out)

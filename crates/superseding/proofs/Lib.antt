@@ -1,0 +1,4 @@
+pub mod Reading
+pub mod Two
+pub mod Laws
+mod Cases

@@ -1,0 +1,2 @@
+pub mod Superseding
+pub mod Laws
