@@ -31,7 +31,7 @@ pub record OneShare (x y : ShareRecord) : Type 0 where
   pub dealing : x .dealing ≡ y .dealing
   pub holder : x .holder ≡ y .holder
   pub column : x .column ≡ y .column
-  -- "dealing 0 marks a combination"
+  -- "In SH, 0 marks a combination"
   pub single : x .dealing ≡ 0 → ⊥
 
 -- "A refusal gives an empty part, and a call beside it gives the number, 0 if there is none"
