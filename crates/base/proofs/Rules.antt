@@ -40,6 +40,7 @@ head : (b j : ℕ) (l : List Rule) → T (rising b ((j when true) ∷ l)) → b 
 head b j l h = leb→le b j (T-left (leb b j) (rising j l) h)
 
 least-from : (l : List Rule) (b k : ℕ) → 0 < b → T (rising b l) → Applies l k → (0 < refusal l) × (refusal l ≤ k) × (b ≤ k)
+least-from [] b k p h x = elim x [ ]
 least-from ((j when true) ∷ l) b _ p h here =
     let q : b ≤ j = head b j l h in
     let z : 0 < j = omega arith in
@@ -65,6 +66,7 @@ lowest l h = record { least = λ k a. let r = least-from l 1 k (omega arith) h a
 
 -- a number that no rule has is not given
 without-applies : (k : ℕ) (l : List Rule) → T (without k l) → Applies l k → ⊥
+without-applies k [] t x = elim x [ ]
 without-applies k ((_ when true) ∷ l) t here = rw (eq-eqb k k refl) at (T-left (not (eqb k k)) (without k l) t)
 without-applies k ((j when b) ∷ l) t (there w) = without-applies k l (T-right (not (eqb j k)) (without k l) t) w
 

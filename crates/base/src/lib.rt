@@ -1,4 +1,6 @@
 // What the layers above share in code: a refusal table's rule, an entry widened, a test of a whole slice, a part of one copied.
+#![tactic(auto)]
+
 ghost use Rattle.std.specs.Prelude.{◌≡◌, ◌+◌, ◌<◌, ◌≤◌, length, get_or};
 ghost use Rattle.base.specs.Rules.{or_when};
 ghost use Rattle.base.specs.Fill.{laid};

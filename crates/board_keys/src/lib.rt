@@ -1,5 +1,7 @@
 // Board keys, the product: sixteen bytes in, sixteen bytes out, on one setup that no caller lends (p 257, ℓ 4, e 3, n 16, points matrix). Each call first works
 // out its refusal by the table of specs/Keys.antt; where there is none, `key_parts` writes the parts and `key_values` reads the positions off the shares.
+#![tactic(auto)]
+
 ghost use Rattle.std.specs.Prelude.{◌≡◌, not, ◌+◌, ◌*◌, ◌≤◌, length};
 ghost use Rattle.base.specs.Rules.{refusal, left_by};
 ghost use Rattle.base.specs.Fill.{tab};

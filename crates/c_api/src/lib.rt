@@ -1,5 +1,7 @@
 // Every call, exported for C and Rust. A setup is passed as its four numbers with its matrix beside them, a slice as a pointer and a length. Each
 // function returns 0 or document 01's number of the refusal; values of the answer go into lent places, which a refusal leaves as they were.
+#![tactic(auto)]
+
 ghost use Rattle.std.specs.Prelude.{◌≡◌, []};
 ghost use Rattle.field.specs.Fields.{field_answer};
 ghost use Rattle.scheme.specs.Calls.{points_call, points_left, deal_call, deal_left_g, deal_left_h, deal_all_call, deal_all_left_g, deal_all_left_h};

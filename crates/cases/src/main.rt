@@ -1,6 +1,8 @@
 // Stored cases from standard input, each a call with all that it is lent, and for each what it gave, then a line feed: the number returned, the values given, and every lent buffer
 // as it is left. A case is a head of 20 words (the call, nine numbers, the lengths of nine slices of words and of one of bytes), then the slices. A place
 // for a value holds 7777 before the call. A signed number is two words, in two's complement, the low half first, and is printed with its sign.
+#![tactic(auto)]
+
 ghost use Rattle.std.specs.Prelude.{◌≡◌, ◌+◌, ◌*◌, ◌≤◌, ◌<◌, length};
 
 use libc::{STDIN_FILENO, STDOUT_FILENO};

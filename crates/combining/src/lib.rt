@@ -1,4 +1,6 @@
 // Combinations and refreshes of one holder's shares, open calls. What each refuses and answers is said by the table of scheme's specs/Calls.antt.
+#![tactic(auto)]
+
 ghost use Rattle.std.specs.Prelude.{◌≡◌, ◌+◌, ◌%◌, ◌≤◌, eqb, leb, length};
 ghost use Rattle.base.specs.Rules.{refusal};
 ghost use Rattle.base.specs.Search.{every};

@@ -1,5 +1,7 @@
 // Dealing to one holder and to all: the open calls. Each first works out its refusal by the table of scheme's specs/Calls.antt; where there is none it
 // works on inputs that are in order. The work neither branches on nor indexes by a secret or a random entry.
+#![tactic(auto)]
+
 ghost use Rattle.std.specs.Prelude.{◌≡◌, [], ◌++◌, ℕ, ◌+◌, ◌-◌, ◌*◌, ◌<◌, ◌≤◌, length};
 ghost use Rattle.base.specs.Rules.{refusal, refusal_from};
 ghost use Rattle.base.specs.Fill.{filled, laid};

@@ -1,5 +1,7 @@
 // Gauss-Jordan elimination modulo a prime on lent flat buffers. `a` holds `rows` rows of `width` entries; `used` holds, for each row, 0 or
 // one more than the column of its pivot. Each function that subtracts multiples of a pivot row gives the number of its subtractions.
+#![tactic(auto)]
+
 ghost use Rattle.std.specs.Prelude.{◌≡◌, ◌+◌, ◌*◌, ◌<◌, ◌≤◌, length};
 ghost use Rattle.base.specs.Matrix.{Below};
 ghost use Rattle.field.specs.Prime.{Inverses};

@@ -1,17 +1,19 @@
 // Prime fields: which there are, and the arithmetic that the layers above need; products of vectors.
+#![tactic(auto)]
+
 ghost use Rattle.std.specs.Prelude.{◌≡◌, not, ℕ, ◌+◌, ◌-◌, ◌*◌, ◌%◌, ◌<◌, ◌≤◌, length};
 ghost use Rattle.field.specs.Prime.{Prime, Inverse, Inverses};
 ghost use Rattle.field.specs.Fields.{is_field, field_answer, order_of, paper};
 ghost use Rattle.field.specs.Dot.{dot, along};
 
 // A field, by its number of elements. The number is private: outside this crate the constructor alone gives a field.
-#[derive(Drop)]
+#[derive(Clone, Copy)]
 pub struct Field {
     p: u16,
 }
 
 // The answer to the wish for a field: the field, or refusal 1.
-#[derive(Drop)]
+#[derive(Clone, Copy)]
 pub enum Chosen {
     Of(Field),
     NoField,

@@ -1,4 +1,6 @@
 // A holder's file read from a lent slice: a refusal with the byte where the faulty record starts, or what the file tells.
+#![tactic(auto)]
+
 ghost use Rattle.std.specs.Prelude.{◌≡◌, true, false, [], ◌≤◌, length};
 ghost use Rattle.base.specs.Rules.{refusal};
 ghost use Rattle.scheme.specs.Setup.{setup_of};
@@ -13,7 +15,7 @@ use scheme::{Fate, Judgement, Outcome, Params};
 
 // What a file tells that was read to its end: the shares stand at the start, and zeros behind them; none where the dealing was aborted. With a DF, the shares of the
 // second dealing beside them; and whether it is a zero dealing's.
-#[derive(Drop)]
+#[derive(Clone, Copy)]
 pub struct Told {
     pub setup: Params,
     pub dealing: u16,
@@ -26,7 +28,7 @@ pub struct Told {
 }
 
 // A refusal and its byte, or 0 and what the file tells.
-#[derive(Drop)]
+#[derive(Clone, Copy)]
 pub struct Reading {
     pub refusal: u16,
     pub byte: usize,
@@ -34,7 +36,7 @@ pub struct Reading {
 }
 
 // The numbers of SU and DL or DZ: a refusal and its byte, or 0 and the byte where DL or DZ ends.
-#[derive(Drop)]
+#[derive(Clone, Copy)]
 pub struct Front {
     pub refusal: u16,
     pub byte: usize,
@@ -44,7 +46,7 @@ pub struct Front {
 }
 
 // Whether a DF comes behind them: a refusal and its byte, or 0 and the byte where the PV start.
-#[derive(Drop)]
+#[derive(Clone, Copy)]
 pub struct SecondFront {
     pub refusal: u16,
     pub byte: usize,
@@ -52,7 +54,7 @@ pub struct SecondFront {
 }
 
 // The numbers of all records, with what the n holders sent.
-#[derive(Drop)]
+#[derive(Clone, Copy)]
 pub struct Parts {
     pub refusal: u16,
     pub byte: usize,
@@ -66,7 +68,7 @@ pub struct Parts {
 }
 
 // The holder's own judgement, and the shares that stand in DL or DZ, and DF.
-#[derive(Drop)]
+#[derive(Clone, Copy)]
 pub struct Own {
     pub judgement: Judgement,
     pub shares: [u16; 8],

@@ -1,5 +1,7 @@
 // The records of a holder's file behind its SU, DL or DZ, and DF: its PV by rising sender, with a DF its PF by rising sender, then its VD by rising holder, read to the
 // file's end or to the first that is faulty or missing; and the lists that stand in its SU, DL or DZ, and DF.
+#![tactic(auto)]
+
 ghost use Rattle.std.specs.Prelude.{◌≡◌, [], ◌+◌, ◌*◌, ◌≤◌, length, take};
 ghost use Rattle.base.specs.Fill.{tab};
 ghost use Rattle.scheme.specs.Setup.{setup_of};
@@ -12,7 +14,7 @@ use record_layouts::{PairRecord, VerdictRecord};
 use scheme::Params;
 
 // What stands before the records decides: p, n, the file's dealing number and holder, whether it has a DF, and whether it is a zero dealing's.
-#[derive(Drop)]
+#[derive(Clone, Copy)]
 pub struct Head {
     pub p: u16,
     pub n: u16,
@@ -23,7 +25,7 @@ pub struct Head {
 }
 
 // The refusal or 0, and the byte where the faulty record starts or a missing one would; and what the n holders sent, by sender: by PV, by PF and by VD.
-#[derive(Drop)]
+#[derive(Clone, Copy)]
 pub struct Sent {
     pub refusal: u16,
     pub byte: usize,
@@ -33,7 +35,7 @@ pub struct Sent {
 }
 
 // The lists of a DL, DZ or DF.
-#[derive(Drop)]
+#[derive(Clone, Copy)]
 pub struct PartLists {
     pub shares: [u16; 8],
     pub h: [u16; 16],

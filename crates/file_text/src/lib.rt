@@ -1,4 +1,6 @@
 // The text that the holder program prints, written into a lent buffer: words and numbers, then lines, then the two texts that callers ask for.
+#![tactic(auto)]
+
 ghost use Rattle.std.specs.Prelude.{[], ◌+◌, ◌*◌, ◌≤◌, length};
 ghost use Rattle.scheme.specs.Setup.{setup_of};
 ghost use Rattle.file_text.specs.Text.{Wrote, Printed};

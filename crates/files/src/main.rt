@@ -1,4 +1,6 @@
 // Many holder's files from standard input, each behind its length of two bytes, and what is printed for each.
+#![tactic(auto)]
+
 ghost use Rattle.std.specs.Prelude.{◌≤◌, length};
 
 use libc::{STDIN_FILENO, STDOUT_FILENO};

@@ -1,1 +1,3 @@
 // Gauss-Jordan elimination modulo a prime on matrices: its definition, its row steps, and what it keeps; no code.
+
+#![tactic(auto)]

@@ -1,11 +1,13 @@
 // The holder program: reads a holder's file from standard input, at most 4,096 bytes, and prints what became of the dealing.
+#![tactic(auto)]
+
 ghost use Rattle.std.specs.Prelude.{◌≡◌, ◌≤◌, length};
 ghost use Rattle.holder_file.specs.Text.{file_text};
 
 use libc::{STDERR_FILENO, STDIN_FILENO, STDOUT_FILENO};
 
 // How much was read, and whether a read failed.
-#[derive(Drop)]
+#[derive(Clone, Copy)]
 struct Input {
     len: usize,
     failed: bool,

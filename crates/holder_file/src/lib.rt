@@ -1,4 +1,6 @@
 // A holder's file from a lent slice: its text into a lent buffer, or its contents as numbers.
+#![tactic(auto)]
+
 ghost use Rattle.std.specs.Prelude.{◌≡◌, List, [], ◌∷◌, ℕ, ◌≤◌, length};
 ghost use Rattle.base.specs.Rules.{refusal};
 ghost use Rattle.file_text.specs.Text.{Printed};
@@ -10,7 +12,7 @@ use file_reading::Told;
 use scheme::{Fate, Judgement};
 
 // How many bytes were printed, or the refusal: of the file at a byte, or of what was lent.
-#[derive(Drop)]
+#[derive(Clone, Copy)]
 pub enum Printing {
     Bytes(usize),
     RefusedAt(u16, usize),
@@ -18,7 +20,7 @@ pub enum Printing {
 }
 
 // Whether the contents were given.
-#[derive(Drop)]
+#[derive(Clone, Copy)]
 pub enum FileGiven {
     Given,
     RefusedAt(u16, usize),
@@ -90,7 +92,7 @@ pub fn print_file(file: &[u8], out: &mut [u8]) -> usize
 }
 
 // A verdict or an outcome as two numbers: 1 and 0, or 0 and the holder named, or 0 and 65535 where only the check of the map fails.
-#[derive(Drop)]
+#[derive(Clone, Copy)]
 pub struct Said {
     pub yes: u16,
     pub named: u16,

@@ -1,5 +1,7 @@
 // Judging a dealing: the pair value, the judgement of the values received and the dealer's rehearsal. Each call first works out its refusal by the table
 // of scheme's specs/Calls.antt; where there is none it works on inputs that are in order.
+#![tactic(auto)]
+
 ghost use Rattle.std.specs.Prelude.{◌≡◌, [], ◌∷◌, ◌+◌, ◌*◌, ◌%◌, ◌<◌, ◌≤◌, length};
 ghost use Rattle.base.specs.Rules.{refusal, refusal_from};
 ghost use Rattle.base.specs.Search.{first};

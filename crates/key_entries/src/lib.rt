@@ -1,4 +1,6 @@
 // F of a board key (ℓ 4, e 3), row by row and column by column, from the key's bytes and the random entries as they stand.
+#![tactic(auto)]
+
 ghost use Rattle.std.specs.Prelude.{◌≡◌, List, ℕ, ◌+◌, ◌<◌, length};
 ghost use Rattle.base.specs.Fill.{tab};
 ghost use Rattle.key_entries.specs.Inner.{Lent, key_entry};

@@ -1,5 +1,7 @@
 // Every depot's part of a board key (p 257, ℓ 4, e 3, n 16, points matrix), from inputs that are in order: each entry of a part is worked out for all
 // sixteen depots side by side. The work neither branches on nor indexes by a byte or an entry.
+#![tactic(auto)]
+
 ghost use Rattle.std.specs.Prelude.{◌≡◌, ◌+◌, ◌%◌, ◌<◌, length};
 ghost use Rattle.base.specs.Fill.{tab, Put};
 ghost use Rattle.base.specs.Matrix.{entry, Below};

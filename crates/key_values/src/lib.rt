@@ -1,6 +1,8 @@
 // What the shares of a board key give (p 257, ℓ 4, e 3, n 16, points matrix), from inputs that are in order. A column's shares of the first seven members are
 // the values at their points of one polynomial of degree below 7: its values at 0 to 3 are the positions, and each further share is held to its value. Both come by
 // Lagrange's weights in the barycentric form, worked out once for all four columns, with a depot in each lane.
+#![tactic(auto)]
+
 ghost use Rattle.std.specs.Prelude.{◌≡◌, [], ◌+◌, ◌*◌, ◌^◌, ◌<◌, ◌≤◌, length, get_or};
 ghost use Rattle.base.specs.Fill.{tab};
 ghost use Rattle.base.specs.Matrix.{flat, Below};
@@ -8,7 +10,7 @@ ghost use Rattle.key_weights.specs.Inner.{Depots};
 ghost use Rattle.key_values.specs.Inner.{Columns, Tables, Ready, shown, read_at, expected, agrees, Agreed, AllAgreed, depots, Interpolates};
 
 // POSITIONS
-#[derive(Drop)]
+#[derive(Clone, Copy)]
 struct Four {
     a: u32,
     b: u32,
@@ -144,7 +146,7 @@ fn all_agree(
 
 // THE FOUR COLUMNS
 // The sixteen positions, and whether every share lies on its column's polynomial.
-#[derive(Drop)]
+#[derive(Clone, Copy)]
 pub struct Interpolated {
     pub consistent: bool,
     pub values: [u16; 16],

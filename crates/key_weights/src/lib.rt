@@ -1,5 +1,7 @@
 // Lagrange's weights for the openings of a board key (p 257, ℓ 4, e 3, n 16, points matrix), from the first seven members of a set, and the four columns'
 // shares times these weights. A depot stands in each lane; depot i's point is 7 + i.
+#![tactic(auto)]
+
 ghost use Rattle.std.specs.Prelude.{◌≡◌, ◌+◌, ◌*◌, ◌%◌, ◌<◌, ◌≤◌, length};
 ghost use Rattle.base.specs.Fill.{tab};
 ghost use Rattle.base.specs.Matrix.{Below};
@@ -39,7 +41,7 @@ fn behind(j: u16) -> [u16; 16]
 
 // inverses: for every depot i the product of 1 / (i - j) over the first seven members j other than i; products: for every position q, once for each
 // column, the product of q - 7 - j.
-#[derive(Drop)]
+#[derive(Clone, Copy)]
 pub struct Weights {
     pub inverses: [u16; 16],
     pub products: [u16; 16],

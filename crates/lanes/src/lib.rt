@@ -1,4 +1,6 @@
 // Arithmetic in lanes: arrays of 8, 16 or 32 numbers, worked on side by side and without a division. Entries are below 257, and remainders modulo 257.
+#![tactic(auto)]
+
 ghost use Rattle.std.specs.Prelude.{◌≡◌, ◌+◌, ◌*◌, ◌/◌, ◌%◌, ◌<◌, ◌≤◌, length, get_or};
 ghost use Rattle.base.specs.Fill.{tab};
 ghost use Rattle.base.specs.Matrix.{Below};

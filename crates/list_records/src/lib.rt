@@ -1,4 +1,6 @@
 // The refusals of the records with lists, SU, DL, DZ and DF: as they stand in a file, and as they are read into lent buffers.
+#![tactic(auto)]
+
 ghost use Rattle.std.specs.Prelude.{◌≡◌, [], ◌∷◌, ◌≤◌};
 ghost use Rattle.base.specs.Rules.{refusal};
 ghost use Rattle.scheme.specs.Setup.{dim, setup_of};

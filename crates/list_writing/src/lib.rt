@@ -1,5 +1,7 @@
 // Writing the records with lists, SU, DL, DZ and DF, into lent bytes: the open calls. What each refuses, answers and leaves in its buffer is said by record_layouts'
 // specs/Records.antt; where nothing is refused the buffer has just the record's bytes.
+#![tactic(auto)]
+
 ghost use Rattle.std.specs.Prelude.{◌≡◌, [], ◌∷◌, ◌++◌, ◌+◌, ◌*◌, ◌≤◌, length};
 ghost use Rattle.std.proofs.lemmas.List.Edits.{sets};
 ghost use Rattle.base.specs.Rules.{refusal};

@@ -1,6 +1,8 @@
 // Dealing with a map: a dealing and a second one, whose array is the map of the first, to one holder and to all. Each call first works out its refusal by
 // the table of scheme's specs/Calls.antt; where there is none it works on inputs that are in order. The work neither branches on nor indexes by a secret or a
 // random entry.
+#![tactic(auto)]
+
 ghost use Rattle.std.specs.Prelude.{◌≡◌, [], ◌∷◌, ◌+◌, ◌*◌};
 ghost use Rattle.base.specs.Rules.{refusal, refusal_from};
 ghost use Rattle.base.specs.Fill.{filled, laid};

@@ -1,5 +1,7 @@
 // Judging two dealings tied by a map: the holder's values in both, and that the first entries of the second part are the map of those of the first. The call first
 // works out its refusal by the table of scheme's specs/Calls.antt; where there is none it works on inputs that are in order.
+#![tactic(auto)]
+
 ghost use Rattle.std.specs.Prelude.{◌≡◌, [], ◌*◌, ◌<◌, ◌≤◌, length};
 ghost use Rattle.base.specs.Rules.{refusal};
 ghost use Rattle.base.specs.Search.{first};

@@ -1,5 +1,7 @@
 // Opening the shares of a set, an open call. It first works out its refusal by the table of scheme's specs/Calls.antt; where there is none it
 // eliminates the members' rows beside the shares, in buffers of its own, and reads the answer off.
+#![tactic(auto)]
+
 ghost use Rattle.std.specs.Prelude.{◌≡◌, ◌+◌, length};
 ghost use Rattle.base.specs.Rules.{refusal};
 ghost use Rattle.scheme.specs.Setup.{setup_of};

@@ -1,5 +1,7 @@
 // The outcome of a dealing, from the verdicts of all holders, and the shares of one that is kept. The call first works out its refusal by the table of scheme's
 // specs/Calls.antt; where there is none it works on inputs that are in order.
+#![tactic(auto)]
+
 ghost use Rattle.std.specs.Prelude.{◌≡◌, [], ◌≤◌, length, take};
 ghost use Rattle.base.specs.Rules.{refusal};
 ghost use Rattle.base.specs.Search.{first};

@@ -1,5 +1,7 @@
 // Every holder's part of a dealing, from a matrix and an F that are in order. The order is that of figure 3, step 2 of source document 000: a holder's h is
 // worked out and written before its g, and no sum, lane or pass holds entries of both. The work neither branches on nor indexes by an entry.
+#![tactic(auto)]
+
 ghost use Rattle.std.specs.Prelude.{◌≡◌, true, ℕ, ◌+◌, ◌*◌, ◌%◌, ◌<◌, ◌≤◌, ltb, length, get_or};
 ghost use Rattle.base.specs.Choice.{pick};
 ghost use Rattle.base.specs.Fill.{tab, filled, laid, Put};

@@ -1,5 +1,7 @@
 // Answers handed out: each function returns an answer's number and writes its values into the places that the caller lends; a place for which the answer
 // has no value keeps what it holds.
+#![tactic(auto)]
+
 ghost use Rattle.std.specs.Prelude.{◌≡◌};
 ghost use Rattle.scheme.specs.Answers.{paper_judged, paper_rehearsal, paper_share, paper_set_judged, paper_opened};
 ghost use Rattle.record_layouts.specs.Records.{paper_share_read};

@@ -1,5 +1,7 @@
 // The points matrix: the open call. It first works out its refusal by the table of scheme's specs/Calls.antt; where there is none it works on inputs that
 // are in order.
+#![tactic(auto)]
+
 ghost use Rattle.std.specs.Prelude.{◌≡◌, true, [], ◌*◌, ◌%◌, ◌<◌, ◌≤◌, eqb, length};
 ghost use Rattle.base.specs.Choice.{pick};
 ghost use Rattle.base.specs.Rules.{refusal, given, answer_by};

@@ -1,1 +1,3 @@
 // Polynomials modulo a prime: definitions and laws, no code.
+
+#![tactic(auto)]

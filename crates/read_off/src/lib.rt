@@ -1,4 +1,6 @@
 // What is read off a matrix that `elimination` has reduced: whether systems have solutions, a solution, and whether a position is determined.
+#![tactic(auto)]
+
 ghost use Rattle.std.specs.Prelude.{◌≡◌, ◌+◌, ◌<◌, ◌≤◌, length, get_or};
 ghost use Rattle.base.specs.Fill.{tab};
 ghost use Rattle.field.specs.Dot.{at};

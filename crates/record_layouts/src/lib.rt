@@ -1,5 +1,7 @@
 // Records: their fields as types, and the rules that writing and reading share. What each layout is, and what
 // each call refuses, answers and leaves in its buffers, is said by specs/Records.antt.
+#![tactic(auto)]
+
 ghost use Rattle.std.specs.Prelude.{◌≡◌, [], ◌*◌, ◌≤◌};
 ghost use Rattle.base.specs.Rules.{refusal_from};
 ghost use Rattle.scheme.specs.Setup.{setup_of};
@@ -39,14 +41,14 @@ pub const SHARE_SIZE: usize = 12;
 
 // THE RECORDS
 // DL and DZ without g and h, and DF without g, h and φ.
-#[derive(Drop)]
+#[derive(Clone, Copy)]
 pub struct DealingRecord {
     pub dealing: u16,
     pub holder: u16,
 }
 
 // PV and PF.
-#[derive(Drop)]
+#[derive(Clone, Copy)]
 pub struct PairRecord {
     pub dealing: u16,
     pub sender: u16,
@@ -55,7 +57,7 @@ pub struct PairRecord {
 }
 
 // VD: 1 accepts, 0 rejects.
-#[derive(Drop)]
+#[derive(Clone, Copy)]
 pub struct VerdictRecord {
     pub dealing: u16,
     pub holder: u16,
@@ -63,7 +65,7 @@ pub struct VerdictRecord {
 }
 
 // SH: dealing 0 marks a combination.
-#[derive(Drop)]
+#[derive(Clone, Copy)]
 pub struct ShareRecord {
     pub dealing: u16,
     pub holder: u16,
@@ -73,31 +75,31 @@ pub struct ShareRecord {
 }
 
 // What the readers give.
-#[derive(Drop)]
+#[derive(Clone, Copy)]
 pub enum SetupRead {
     Is(Params),
     Refused(u16),
 }
 
-#[derive(Drop)]
+#[derive(Clone, Copy)]
 pub enum DealingRead {
     Is(DealingRecord),
     Refused(u16),
 }
 
-#[derive(Drop)]
+#[derive(Clone, Copy)]
 pub enum PairRead {
     Is(PairRecord),
     Refused(u16),
 }
 
-#[derive(Drop)]
+#[derive(Clone, Copy)]
 pub enum VerdictRead {
     Is(VerdictRecord),
     Refused(u16),
 }
 
-#[derive(Drop)]
+#[derive(Clone, Copy)]
 pub enum ShareRead {
     Is(ShareRecord),
     Refused(u16),

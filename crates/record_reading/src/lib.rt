@@ -1,5 +1,7 @@
 // Reading records: the open calls. Each takes a part of a file from a record's first byte on and reads the record that stands there; what follows it
 // is not looked at. What each refuses, answers and leaves in its buffers is said by record_layouts' specs/Records.antt.
+#![tactic(auto)]
+
 ghost use Rattle.std.specs.Prelude.{◌≡◌, [], ◌+◌, ◌*◌, ◌≤◌, length};
 ghost use Rattle.scheme.specs.Setup.{dim, setup_of};
 ghost use Rattle.scheme.specs.Answers.{paper_written};

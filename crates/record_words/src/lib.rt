@@ -1,4 +1,6 @@
 // Words of 16 bits in lent bytes, low byte first, at a place that is counted in words: what records are made of.
+#![tactic(auto)]
+
 ghost use Rattle.std.specs.Prelude.{◌≡◌, not, ◌+◌, ◌*◌, ◌≤◌, length};
 ghost use Rattle.std.proofs.lemmas.List.Edits.{sets};
 ghost use Rattle.base.specs.Rules.{or_when};

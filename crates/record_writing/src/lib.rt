@@ -1,5 +1,7 @@
 // Writing the records of a fixed length, PV, PF, VD and SH, into lent bytes: the open calls. What each refuses, answers and leaves in its buffer is said by record_layouts'
 // specs/Records.antt; where nothing is refused the buffer has just the record's bytes.
+#![tactic(auto)]
+
 ghost use Rattle.std.specs.Prelude.{◌≡◌, []};
 ghost use Rattle.scheme.specs.Setup.{setup_of};
 ghost use Rattle.scheme.specs.Answers.{paper_written};

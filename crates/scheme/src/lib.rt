@@ -1,5 +1,7 @@
 // The types that the calls take and answer with, and the refusals that they share. What each case of a type means in document 01 is said by the
 // `paper` definitions of specs/Answers.antt.
+#![tactic(auto)]
+
 ghost use Rattle.std.specs.Prelude.{◌≡◌, not, [], ◌+◌, ◌*◌, ◌≤◌, eqb};
 ghost use Rattle.base.specs.Rules.{or_when, refusal};
 ghost use Rattle.base.specs.Matrix.{all_below};
@@ -9,7 +11,7 @@ ghost use Rattle.scheme.specs.Opening.{round_of, agree};
 ghost use Rattle.scheme.specs.Calls.{outside, limits, setup_rules};
 
 // The numbers of a setup; the matrix is lent beside them.
-#[derive(Drop)]
+#[derive(Clone, Copy)]
 pub struct Params {
     pub p: u16,
     pub l: u16,
@@ -34,21 +36,21 @@ impl Params {
 }
 
 // A call that writes buffers only.
-#[derive(Drop)]
+#[derive(Clone, Copy)]
 pub enum Written {
     Done,
     Refused(u16),
 }
 
 // A call that gives one field element.
-#[derive(Drop)]
+#[derive(Clone, Copy)]
 pub enum Value {
     Is(u16),
     Refused(u16),
 }
 
 // A call that gives a share: its value and its round.
-#[derive(Drop)]
+#[derive(Clone, Copy)]
 pub enum Share {
     Is(u16, u16),
     Refused(u16),
@@ -56,41 +58,41 @@ pub enum Share {
 
 // A holder's judgement of a dealing: a rejection names the lowest holder whose value differs; of two dealings tied by a map, only the check of the map
 // may fail.
-#[derive(Drop)]
+#[derive(Clone, Copy)]
 pub enum Judgement {
     Accept,
     Reject(u16),
     RejectMap,
 }
 
-#[derive(Drop)]
+#[derive(Clone, Copy)]
 pub enum Judged {
     As(Judgement),
     Refused(u16),
 }
 
 // What became of a dealing: an abort names the lowest holder that said reject.
-#[derive(Drop)]
+#[derive(Clone, Copy)]
 pub enum Fate {
     Kept,
     Aborted(u16),
 }
 
-#[derive(Drop)]
+#[derive(Clone, Copy)]
 pub enum Settled {
     As(Fate),
     Refused(u16),
 }
 
 // How a dealing ended at one holder.
-#[derive(Drop)]
+#[derive(Clone, Copy)]
 pub struct Outcome {
     pub judgement: Judgement,
     pub fate: Fate,
 }
 
 // The dealer's rehearsal: the first pair (i, j) that disagrees, where i checks the value of j.
-#[derive(Drop)]
+#[derive(Clone, Copy)]
 pub enum Rehearsal {
     Fair,
     Disagree(u16, u16),
@@ -98,7 +100,7 @@ pub enum Rehearsal {
 }
 
 // The judgement of a set at a position, with its row steps.
-#[derive(Drop)]
+#[derive(Clone, Copy)]
 pub enum SetJudged {
     Row(u16),
     Vector(u16),
@@ -107,7 +109,7 @@ pub enum SetJudged {
 }
 
 // A question with yes or no.
-#[derive(Drop)]
+#[derive(Clone, Copy)]
 pub enum Decided {
     Yes,
     No,
@@ -115,7 +117,7 @@ pub enum Decided {
 }
 
 // An opening: the secrets written, or the lowest position with no row, or shares that no vector gives.
-#[derive(Drop)]
+#[derive(Clone, Copy)]
 pub enum Opened {
     Secrets,
     Undetermined(u16),

@@ -1,6 +1,8 @@
 // The three questions about a set, open calls: whether it is private, whether it determines the secrets, and what it is at a position. Each first works
 // out its refusal by the table of scheme's specs/Calls.antt. Where there is none it eliminates systems of `set_systems`, in buffers of its own, and reads
 // the answer off.
+#![tactic(auto)]
+
 ghost use Rattle.std.specs.Prelude.{◌≡◌, ◌+◌, ◌<◌, length, replicate};
 ghost use Rattle.base.specs.Rules.{refusal};
 ghost use Rattle.base.specs.Fill.{tab};
@@ -70,7 +72,7 @@ pub fn determines(s: Params, matrix: &[u16], set: u32) -> Decided
 
 // A RECONSTRUCTION ROW
 // Whether a row was found, and the row steps that it took to know.
-#[derive(Drop)]
+#[derive(Clone, Copy)]
 struct Sought {
     found: bool,
     steps: u16,

@@ -1,5 +1,7 @@
 // Sets of holders: their members, how the members' rows come into a buffer, the three systems that are made of them, and what refuses a set. Each
 // system is loaded and eliminated in lent buffers; `opening` and `set_questions` read their answers off it.
+#![tactic(auto)]
+
 ghost use Rattle.std.specs.Prelude.{◌≡◌, ◌+◌, ◌*◌, ◌<◌, ◌≤◌, length, get_or};
 ghost use Rattle.base.specs.Rules.{refusal};
 ghost use Rattle.base.specs.Search.{Vec};

@@ -1,5 +1,7 @@
 // Corrections below zero as well as above, held as residues modulo 65521, and openings that read them back: the calls of document 02, A10. Each first
 // works out its refusal by the table of specs/Calls.antt; 22, a correction or constant beyond the range, comes before all others.
+#![tactic(auto)]
+
 ghost use Rattle.std.specs.Prelude.{◌≡◌, true, [], ◌∷◌, ◌<◌, ltb, length};
 ghost use Rattle.base.specs.Choice.{pick};
 ghost use Rattle.base.specs.Rules.{refusal};

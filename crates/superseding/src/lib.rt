@@ -1,5 +1,7 @@
 // Which of two share records counts: of two SH records of one share, the one with the higher round. What the calls refuse and answer, and of which lent
 // slice they return which part, is said by specs/Superseding.antt.
+#![tactic(auto)]
+
 ghost use Rattle.std.specs.Prelude.{◌≡◌, [], ◌∷◌};
 ghost use Rattle.base.specs.Choice.{pick};
 ghost use Rattle.base.specs.Rules.{refusal, given, answer_by};
@@ -9,7 +11,7 @@ ghost use Rattle.superseding.specs.Superseding.{superseding_faults, superseding_
 use record_layouts::{SHARE_SIZE, ShareRead, ShareRecord};
 use scheme::Params;
 
-#[derive(Drop)]
+#[derive(Clone, Copy)]
 pub enum Superseding {
     First,
     Second,

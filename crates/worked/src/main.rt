@@ -1,5 +1,7 @@
 // Document 01's cases, and a zero dealing with its refresh on the same example, worked by the compiled calls: a line for each, its words and then what the
 // call gave.
+#![tactic(auto)]
+
 use libc::STDOUT_FILENO;
 use scheme::{
     Decided, Fate, Judged, Judgement, Opened, Params, Rehearsal, SetJudged, Settled, Share, Value,

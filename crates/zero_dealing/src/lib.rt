@@ -1,5 +1,7 @@
 // Dealing zeros, and judging such a dealing: the open calls. Each first works out its refusal by the table of scheme's specs/Calls.antt; where there is
 // none it works on inputs that are in order. The work of dealing neither branches on nor indexes by a random entry.
+#![tactic(auto)]
+
 ghost use Rattle.std.specs.Prelude.{◌≡◌, [], ◌∷◌, ◌+◌, ◌*◌, replicate};
 ghost use Rattle.base.specs.Rules.{refusal};
 ghost use Rattle.base.specs.Fill.{filled};

@@ -1,0 +1,24 @@
+-- Where nothing is refused, every depot's part is written.
+use native.Mathlib.Omega.{arith}
+use Rattle.base.proofs.Rules.{declined, unchanged}
+use Rattle.board_keys.proofs.Dealing.{lent-right, answered, left-g, left-h}
+use Rattle.board_keys.proofs.deal_key.Goals as goal
+
+pub returns-then-refusal-ne0 : goal.returns-then-refusal-ne0
+returns-then-refusal-ne0 c = let both = rw (← c.deal_key_refusal-refusal.ensures) (declined _ _ c.if-refusal-ne0.true, (unchanged _ _ _ c.if-refusal-ne0.true, unchanged _ _ _ c.if-refusal-ne0.true)) in record { result_value = both.0; gs_after = both.1; hs_after = both.2 }
+
+pub write_parts-requires : goal.write_parts-requires
+write_parts-requires c =
+    let bytes = c.shared_slice_known-1.given in
+    let x = c.args in
+    let r = lent-right x.key.now x.random.now x.gs.now x.hs.now _ c.deal_key_refusal-refusal.ensures c.if-refusal-ne0.false (λ k. omega (arith, bytes k)) in record { lent = r.0; gs_len = (r.1, r.2) }
+
+pub returns : goal.returns
+returns c =
+    let x = c.args in
+    let key = x.key.now in
+    let random = x.random.now in
+    let gs = x.gs.now in
+    let hs = x.hs.now in
+    let is = c.deal_key_refusal-refusal.ensures in
+    let W = c.write_parts.ensures in record { result_value = answered key random gs hs _ is c.if-refusal-ne0.false; gs_after = left-g key random gs hs _ is c.if-refusal-ne0.false _ W.0; hs_after = left-h key random gs hs _ is c.if-refusal-ne0.false _ W.1 }

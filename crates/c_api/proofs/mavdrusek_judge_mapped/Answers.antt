@@ -1,0 +1,10 @@
+-- What the call answers is what the definition gives; its number, its verdict and the holder named are read off that.
+use Rattle.base.specs.Rules.{Answer}
+use Rattle.places.specs.Places.{place, named_place}
+use mathlib.Core.Path.{ap, ◌∙◌}
+use Rattle.c_api.proofs.mavdrusek_judge_mapped.Goals as goal
+
+pub returns : goal.returns
+returns c =
+    let s = c.args in
+    let e = c.judge_mapped-answer.ensures in record { answer = c.judged.ensures.value ∙ ap (λ (a : Answer). a.number) e; verdict = c.judged.ensures.verdict_after ∙ ap (λ (a : Answer). place 0 a s.verdict.now) e; named = c.judged.ensures.named_after ∙ ap (λ (a : Answer). named_place a s.named.now) e }

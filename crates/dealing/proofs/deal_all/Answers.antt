@@ -1,0 +1,36 @@
+-- Where nothing is refused, the array holds F, and every holder's two parts are written.
+use mathlib.Core.Path.{refl, sym, ◌∙◌}
+use Rattle.base.proofs.Rules.{declined, unchanged}
+use Rattle.scheme.specs.Setup.{setup_of}
+use Rattle.scheme.proofs.Calls.{deal_all-ok}
+use Rattle.dealing.proofs.Parts.{dealt-room, dealt-array, all-g, all-h, all_room}
+use Rattle.dealing.proofs.deal_all.Goals as goal
+
+pub returns-then-refusal-ne0 : goal.returns-then-refusal-ne0
+returns-then-refusal-ne0 c = let both = rw (← c.deal_all_refusal-refusal.ensures) (declined _ _ c.if-refusal-ne0.true, (unchanged _ _ _ c.if-refusal-ne0.true, unchanged _ _ _ c.if-refusal-ne0.true)) in record { result_value = both.0; gs_after = both.1; hs_after = both.2 }
+
+pub fill_dealt-requires : goal.fill_dealt-requires
+fill_dealt-requires c =
+    let x = c.args in
+    let S = setup_of x.s x.matrix.now in
+    let z = sym c.deal_all_refusal-refusal.ensures ∙ c.if-refusal-ne0.false in
+    let ok = deal_all-ok S x.secrets.now x.random.now x.gs.now x.hs.now z in
+    dealt-room S _ _ _ ok.0 refl
+
+pub write_all-requires : goal.write_all-requires
+write_all-requires c =
+    let x = c.args in
+    let S = setup_of x.s x.matrix.now in
+    let z = sym c.deal_all_refusal-refusal.ensures ∙ c.if-refusal-ne0.false in
+    let ok = deal_all-ok S x.secrets.now x.random.now x.gs.now x.hs.now z in let both = rw c.dim-d.ensures.0
+    (all_room S _ _ (dealt-array S _ _ _ ok.0 c.fill_dealt.ensures) ok.0.setup x.gs.now x.hs.now ok.1 ok.2) in record { all_room = both.0; below = both.1; below_2 = both.2; p_value = both.3 }
+
+pub returns : goal.returns
+returns c =
+    let x = c.args in
+    let S = setup_of x.s x.matrix.now in
+    let z = sym c.deal_all_refusal-refusal.ensures ∙ c.if-refusal-ne0.false in
+    let ok = deal_all-ok S x.secrets.now x.random.now x.gs.now x.hs.now z in
+    let d = c.dim-d.ensures.0 in
+    let F = dealt-array S _ _ _ ok.0 c.fill_dealt.ensures in
+    let W = c.write_all.ensures in let both = rw z (refl, (rw d at W.0 ∙ all-g S _ _ F x.gs.now ok.1, rw d at W.1 ∙ all-h S _ _ F x.hs.now ok.2)) in record { result_value = both.0; gs_after = both.1; hs_after = both.2 }

@@ -1,0 +1,15 @@
+-- The lines of the columns left, from the place reached, give the lines of all columns, and in the end no column is left.
+use Prim.Native.Nat.{◌+◌, ◌-◌, ◌*◌, ◌≤◌}
+use mathlib.Core.Path.{◌≡◌}
+use lib.Seq.{sets}
+use lib.ListN.{length, drop}
+use Rattle.file_text.specs.Lines.{column_lines}
+use Rattle.file_text.proofs.column_lines.Given as goal
+
+abbrev pub invariant-loop-column : goal.invariant-loop-column
+invariant-loop-column l = (l.k ≤ l.n) × (l.n ≡ length l.values) × (k ≤ l.at + l.k * (length l.word + 12)) × (length l.column ≡ length l.initial.out)
+    × (sets l.column k (column_lines l.word l.k (drop l.k l.values)) ≡ sets l.initial.out l.at (column_lines l.word 0 l.values))
+    × (k + length (column_lines l.word l.k (drop l.k l.values)) ≡ l.at + length (column_lines l.word 0 l.values))
+
+abbrev pub decreases-loop-column : goal.decreases-loop-column
+decreases-loop-column l = l.n - l.k

@@ -1,0 +1,63 @@
+-- A refused file leaves the buffer; else the numbers fill it.
+-- what is lent, and its refusal
+use Prim.Native.Nat.{ℕ}
+use mathlib.Core.List.{List, []}
+use mathlib.Core.Path.{◌≡◌, refl, sym, ap, ◌∙◌}
+use native.Mathlib.Omega.{arith}
+use Rattle.base.specs.Rules.{refusal}
+use Rattle.base.proofs.Rules.{accepted, written}
+use Rattle.file_reading.specs.File.{read_file, told}
+use Rattle.holder_file.specs.Calls.{lent_file, numbers}
+use Rattle.holder_file.proofs.Laws.{lent-means, lent-declined, file-declined, whole-answer, whole-left, contents, told_is, told-fits, copied}
+use Rattle.holder_file.proofs.file_contents.Tie as tie
+use Rattle.holder_file.proofs.file_contents.Goals as goal
+
+abbrev file : tie.After-lent_refusal-refusal → List ℕ
+file c = c.args.file.now
+
+abbrev buffer : tie.After-lent_refusal-refusal → List ℕ
+buffer c = c.args.contents.now
+
+abbrev declines : tie.After-lent_refusal-refusal → ℕ
+declines c = refusal (lent_file (file c) (buffer c) 27)
+
+lent : (c : tie.After-lent_refusal-refusal) → c.lent_refusal-refusal.result ≡ declines c
+lent c = c.lent_refusal-refusal.ensures (buffer c) refl
+
+fair : (c : tie.Else-refusal-ne0) → declines c.before ≡ 0
+fair c = sym (lent c.before) ∙ c.if-refusal-ne0.false
+
+pub returns-then-refusal-ne0 : goal.returns-then-refusal-ne0
+returns-then-refusal-ne0 c = let both = lent-declined (file c.before.before) (buffer c.before.before) 27 (λ D. []) (λ D. numbers (told D)) _ (lent c.before.before) c.if-refusal-ne0.true in record { answer = both.0; buffer = both.1 }
+
+pub read_file-r-requires : goal.read_file-r-requires
+read_file-r-requires c = (lent-means (file c.before.before) (buffer c.before.before) 27 (fair c.before)).0
+
+pub returns-then-k-ne0 : goal.returns-then-k-ne0
+returns-then-k-ne0 c = let both = file-declined (file c.before.before.before.before) (buffer c.before.before.before.before) 27 (λ D. []) (λ D. numbers (told D)) _ (fair c.before.before.before) c.read_file-r.ensures c.if-k-ne0.true in record { answer = both.0; buffer = both.1 }
+
+-- a file that was read to its end
+
+pub tell_numbers-all-requires : goal.tell_numbers-all-requires
+tell_numbers-all-requires c = (told-fits (file c.before.before.before.before.before) _ c.read_file-r.ensures c.if-k-ne0.false).1
+
+pub slice_bounds-copy-end : goal.slice_bounds-copy-end
+slice_bounds-copy-end c = sym c.tell_numbers-all.ensures.1
+
+pub copy-requires : goal.copy-requires
+copy-requires c =
+    (omega (arith, (lent-means (file c.before.before.before.before.before.before.before.before) (buffer c.before.before.before.before.before.before.before.before) 27 (fair c.before.before.before.before.before.before.before)).1), omega (arith, c.tell_numbers-all.ensures.1))
+
+pub returns : goal.returns
+returns c =
+    let s = file c.before.before.before.before.before.before.before.before.before.before.before in
+    let z = fair c.before.before.before.before.before.before.before.before.before.before in
+    let r = c.read_file-r in
+    let C = contents s r.result r.ensures c.if-k-ne0.false in
+    let n = c.tell_numbers-all in record {
+      answer = whole-answer (λ D. []) (read_file s) C.contents C.is ∙ accepted (declines c.before.before.before.before.before.before.before.before.before.before.before) _ z;
+      buffer = written (declines c.before.before.before.before.before.before.before.before.before.before.before) _ _ _ z
+          (c.copy.ensures ∙ copied n.result (buffer c.before.before.before.before.before.before.before.before.before.before.before) 27 n.ensures.1 (lent-means s (buffer c.before.before.before.before.before.before.before.before.before.before.before) 27 z).1 ∙ n.ensures.0
+          ∙ ap numbers (told_is s r.result r.ensures c.if-k-ne0.false)
+          ∙ whole-left (λ D. numbers (told D)) (read_file s) C.contents (buffer c.before.before.before.before.before.before.before.before.before.before.before) C.is);
+    }

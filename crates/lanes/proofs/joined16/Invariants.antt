@@ -1,0 +1,12 @@
+-- The first i lanes are joined.
+use Prim.Native.Nat.{◌+◌, ◌-◌, ◌*◌, ◌%◌, ◌≤◌}
+use mathlib.Core.Path.{◌≡◌}
+use lib.ListN.{length, get_or}
+use Rattle.base.specs.Fill.{filled}
+use Rattle.lanes.proofs.joined16.Given as goal
+
+abbrev pub invariant-loop-i : goal.invariant-loop-i
+invariant-loop-i l = (l.i ≤ 16) × (length l.initial.r ≡ 16) × (l.r ≡ filled (λ i. (get_or l.sums i 0 + 16 * get_or l.sums (16 + i) 0) % 257) l.i l.initial.r)
+
+abbrev pub decreases-loop-i : goal.decreases-loop-i
+decreases-loop-i l = 16 - l.i

@@ -1,0 +1,10 @@
+-- The product of two numbers of 16 bits fits 32 bits.
+use native.Mathlib.Omega.{arith}
+use Rattle.lanes.proofs.Laws.{prod-le}
+use Rattle.lanes.proofs.low.Goals as goal
+
+pub overflow_mul-result : goal.overflow_mul-result
+overflow_mul-result c = omega (arith, prod-le c.args.a c.args.b (omega arith) (omega arith))
+
+pub overflow_cast-result-3 : goal.overflow_cast-result-3
+overflow_cast-result-3 c = omega (arith, prod-le c.args.a c.args.b (omega arith) (omega arith))

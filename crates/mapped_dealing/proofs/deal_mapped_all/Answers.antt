@@ -1,0 +1,69 @@
+-- Where nothing is refused, the arrays hold F and F_φ, and every holder's two parts of each are written.
+use mathlib.Core.Path.{refl, sym, ◌∙◌}
+use Rattle.base.proofs.Rules.{declined, unchanged}
+use Rattle.scheme.specs.Setup.{setup_of}
+use Rattle.scheme.specs.Calls.{buffers}
+use Rattle.scheme.proofs.Calls.{deal_mapped_all-ok}
+use Rattle.dealing.proofs.Parts.{dealt-room, dealt-array, all-g, all-h, all_room}
+use Rattle.mapped_dealing.proofs.Parts.{same-buffers, mapped-room, mapped-array}
+use Rattle.mapped_dealing.proofs.deal_mapped_all.Goals as goal
+
+pub returns-then-refusal-ne0 : goal.returns-then-refusal-ne0
+returns-then-refusal-ne0 c =
+    let t = c.if-refusal-ne0.true in
+    let r = rw c.matrix_len-size.ensures at c.mapped_refusal-refusal.ensures in let both = rw (← r) (declined _ _ t, same-buffers (unchanged _ _ _ t) (unchanged _ _ _ t) (unchanged _ _ _ t) (unchanged _ _ _ t)) in record { result_value = both.0; hs2_after = both.1 }
+
+pub fill_dealt-requires : goal.fill_dealt-requires
+fill_dealt-requires c =
+    let x = c.args in
+    let S = setup_of x.s x.matrix.now in
+    let B = buffers x.gs.now x.hs.now x.gs2.now x.hs2.now in
+    let z = sym (rw c.matrix_len-size.ensures at c.mapped_refusal-refusal.ensures) ∙ c.if-refusal-ne0.false in
+    let ok = deal_mapped_all-ok S x.secrets.now x.random.now x.phi.now x.random2.now B z in
+    dealt-room S _ _ _ ok.0.first refl
+
+pub fill_mapped-requires : goal.fill_mapped-requires
+fill_mapped-requires c =
+    let x = c.args in
+    let S = setup_of x.s x.matrix.now in
+    let B = buffers x.gs.now x.hs.now x.gs2.now x.hs2.now in
+    let z = sym (rw c.matrix_len-size.ensures at c.mapped_refusal-refusal.ensures) ∙ c.if-refusal-ne0.false in
+    let ok = deal_mapped_all-ok S x.secrets.now x.random.now x.phi.now x.random2.now B z in
+    mapped-room S _ _ _ _ _ _ ok.0 (dealt-array S _ _ _ ok.0.first c.fill_dealt.ensures).long refl
+
+pub write_all-requires : goal.write_all-requires
+write_all-requires c =
+    let x = c.args in
+    let S = setup_of x.s x.matrix.now in
+    let B = buffers x.gs.now x.hs.now x.gs2.now x.hs2.now in
+    let z = sym (rw c.matrix_len-size.ensures at c.mapped_refusal-refusal.ensures) ∙ c.if-refusal-ne0.false in
+    let ok = deal_mapped_all-ok S x.secrets.now x.random.now x.phi.now x.random2.now B z in let both = rw c.dim-d.ensures.0 (all_room S _ _ (dealt-array S _ _ _ ok.0.first c.fill_dealt.ensures) ok.0.first.setup x.gs.now x.hs.now ok.1.g ok.1.h) in record { all_room = both.0; below = both.1; below_2 = both.2; p_value = both.3 }
+
+pub write_all-requires-2 : goal.write_all-requires-2
+write_all-requires-2 c =
+    let x = c.args in
+    let S = setup_of x.s x.matrix.now in
+    let B = buffers x.gs.now x.hs.now x.gs2.now x.hs2.now in
+    let z = sym (rw c.matrix_len-size.ensures at c.mapped_refusal-refusal.ensures) ∙ c.if-refusal-ne0.false in
+    let ok = deal_mapped_all-ok S x.secrets.now x.random.now x.phi.now x.random2.now B z in
+    let F = dealt-array S _ _ _ ok.0.first c.fill_dealt.ensures in let both = rw c.dim-d.ensures.0 (all_room S _ _ (mapped-array S _ _ _ _ _ _ _ ok.0 F c.fill_mapped.ensures) ok.0.first.setup x.gs2.now x.hs2.now ok.1.g2 ok.1.h2) in record { all_room = both.0; below = both.1; below_2 = both.2; p_value = both.3 }
+
+pub returns : goal.returns
+returns c =
+    let x = c.args in
+    let S = setup_of x.s x.matrix.now in
+    let B = buffers x.gs.now x.hs.now x.gs2.now x.hs2.now in
+    let z = sym (rw c.matrix_len-size.ensures at c.mapped_refusal-refusal.ensures) ∙ c.if-refusal-ne0.false in
+    let ok = deal_mapped_all-ok S x.secrets.now x.random.now x.phi.now x.random2.now B z in
+    let d = c.dim-d.ensures.0 in
+    let F = dealt-array S _ _ _ ok.0.first c.fill_dealt.ensures in
+    let F2 = mapped-array S _ _ _ _ _ _ _ ok.0 F c.fill_mapped.ensures in
+    let W = c.write_all.ensures in
+    let W2 = c.write_all-2.ensures in let both = rw z (
+      refl,
+      same-buffers
+          (rw d at W.0 ∙ all-g S _ _ F x.gs.now ok.1.g)
+          (rw d at W.1 ∙ all-h S _ _ F x.hs.now ok.1.h)
+          (rw d at W2.0 ∙ all-g S _ _ F2 x.gs2.now ok.1.g2)
+          (rw d at W2.1 ∙ all-h S _ _ F2 x.hs2.now ok.1.h2),
+    ) in record { result_value = both.0; hs2_after = both.1 }

@@ -1,0 +1,14 @@
+-- The inverse of the basis at its own node, which may be reduced first.
+use mathlib.Core.Path.{◌∙◌, ap}
+use native.Mathlib.Nat.{mod-lt}
+use native.Mathlib.Omega.{arith}
+use Rattle.field.specs.Prime.{inverse_of}
+use Rattle.points.specs.Inner.{weight_of}
+use Rattle.points.proofs.weight.Goals as goal
+
+pub inverse_by-requires : goal.inverse_by-requires
+inverse_by-requires c = let both = (rw c.basis_at.ensures (mod-lt _ (omega (arith, c.requires.prime.big))), c.requires.1) in record { a_lt_p = both.0; prime = both.1; inverses = both.2 }
+
+pub returns : goal.returns
+unfolding weight_of
+returns c = c.inverse_by.ensures.is ∙ ap (inverse_of c.args.p) c.basis_at.ensures

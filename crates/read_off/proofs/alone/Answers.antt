@@ -1,0 +1,51 @@
+-- The search from here is the search of the whole, and it ends early at an entry elsewhere.
+use Prim.Native.Nat.{ℕ, ◌+◌, ◌-◌}
+use mathlib.Core.Path.{◌≡◌, refl, sym, ◌∙◌}
+use mathlib.Core.Bool.{Bool}
+use mathlib.Core.Logic.{⊎_elim}
+use native.Mathlib.Omega.{arith}
+use native.Mathlib.Nat.{sub-zero}
+use borrow.Author.Rules.{rules}
+use borrow.Author.Tests.{eq-eqb, ne_eqb, le-leb, lt-leb}
+use lib.ListN.{get_or}
+use Rattle.base.specs.Search.{first}
+use Rattle.base.proofs.Search.{first-stop, first_step, first-end}
+use Rattle.gauss.specs.Gauss.{elsewhere}
+use Rattle.read_off.specs.ReadOff.{alone}
+use Rattle.read_off.proofs.alone.Goals as goal
+
+pub loop-j-init : goal.loop-j-init
+unfolding first
+loop-j-init c = (search rules, rw sub-zero refl)
+
+pub returns-then-a-t-ne0 : goal.returns-then-a-t-ne0
+unfolding alone elsewhere
+returns-then-a-t-ne0 c =
+    let x = c.args in
+    let l = c.loop-j in
+    let t : ℕ → Bool = elsewhere x.q (λ j. get_or x.a.now (x.t + j) 0) in
+    let e : l.j ≡ first t x.pivots =
+    sym (first-stop t l.j x.pivots (omega arith) (simp (ne_eqb _ _ c.if-q-j.true, ne_eqb _ _ c.if-a-t-ne0.true))) ∙ l.invariant.1 in
+    sym (lt-leb x.pivots (first t x.pivots) (omega arith))
+
+pub loop-j-preserved : goal.loop-j-preserved
+unfolding elsewhere
+loop-j-preserved c =
+    let x = c.args in
+    let l = c.loop-j in
+    let t : ℕ → Bool = elsewhere x.q (λ j. get_or x.a.now (x.t + j) 0) in (
+      search rules,
+      sym
+          (first_step t l.j x.pivots (omega arith)
+          (⊎_elim (λ w. simp (ne_eqb _ _ w.0.true, eq-eqb _ _ w.2.false)) (λ w. simp (eq-eqb _ _ w.left)) c.if-q-j.branch-raw))
+          ∙ l.invariant.1,
+    )
+
+pub returns : goal.returns
+unfolding alone
+returns c =
+    let x = c.args in
+    let l = c.loop-j in
+    let t : ℕ → Bool = elsewhere x.q (λ j. get_or x.a.now (x.t + j) 0) in
+    let e : l.j ≡ first t x.pivots = sym (first-end t l.j x.pivots (omega arith)) ∙ l.invariant.1 in
+    sym (le-leb x.pivots (first t x.pivots) (omega arith))

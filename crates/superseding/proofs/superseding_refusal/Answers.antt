@@ -1,0 +1,14 @@
+-- The number of the answer.
+use mathlib.Core.Path.{sym, ap, ◌∙◌}
+use Rattle.base.specs.Rules.{Answer}
+use Rattle.superseding.specs.Superseding.{paper_superseding}
+use Rattle.superseding.proofs.superseding_refusal.Goals as goal
+
+pub returns-in-First : goal.returns-in-First
+returns-in-First c = ap (λ (a : Answer). a.number) (ap paper_superseding (sym c.enum_told-1.given.1) ∙ c.superseding_record.ensures)
+
+pub returns-in-Second : goal.returns-in-Second
+returns-in-Second c = ap (λ (a : Answer). a.number) (ap paper_superseding (sym c.enum_told-in-Second-1.given.1) ∙ c.superseding_record.ensures)
+
+pub returns-in-Refused : goal.returns-in-Refused
+returns-in-Refused c = ap (λ (a : Answer). a.number) (ap paper_superseding (sym c.k-1.given.1) ∙ c.superseding_record.ensures)
