@@ -2,7 +2,6 @@
 use Prim.Native.Nat.{ℕ, ◌-◌}
 use mathlib.Core.Path.{◌≡◌}
 use mathlib.Core.Bool.{Bool}
-use mathlib.Core.Logic.{⊎_elim}
 use native.Mathlib.Omega.{arith}
 use borrow.Author.Rules.{rules}
 use borrow.Author.Tests.{le-ltb, lt-ltb}
@@ -12,6 +11,7 @@ use Rattle.base.specs.Search.{every}
 use Rattle.base.specs.Matrix.{all_below}
 use Rattle.base.proofs.Search.{every-passed, every-failed}
 use Rattle.base.proofs.all_below.Goals as goal
+use Rattle.base.proofs.all_below.Goals.{then-p-s, else-p-s}
 
 pub loop-i-init : goal.loop-i-init
 unfolding every
@@ -22,9 +22,10 @@ loop-i-preserved c =
     let x = c.args in
     let t : ℕ → Bool = λ k. ltb (get_or x.s.now k 0) x.p in (
       search rules,
-      ⊎_elim (λ w. every-failed t c.loop-i.i c.if-p-s.over (le-ltb _ _ w.0.true) w.1)
-          (λ w. rw w.1 (every-passed t c.loop-i.i c.loop-i.over (lt-ltb _ _ w.0.false) c.loop-i.invariant.1))
-          c.if-p-s.branch-raw,
+      elim c.if-p-s.branch [
+        | then-p-s w ↦ every-failed t c.loop-i.i c.if-p-s.over (le-ltb _ _ w.if-p-s.true) w.over-is
+        | else-p-s w ↦ rw w.over-is (every-passed t c.loop-i.i c.loop-i.over (lt-ltb _ _ w.if-p-s.false) c.loop-i.invariant.1)
+      ],
     )
 
 pub returns : goal.returns

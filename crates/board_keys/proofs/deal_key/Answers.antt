@@ -9,7 +9,7 @@ returns-then-refusal-ne0 c = let both = rw (← c.deal_key_refusal-refusal.ensur
 
 pub write_parts-requires : goal.write_parts-requires
 write_parts-requires c =
-    let bytes = c.shared_slice_known-1.given in
+    let bytes = c.type_inv.key in
     let x = c.args in
     let r = lent-right x.key.now x.random.now x.gs.now x.hs.now _ c.deal_key_refusal-refusal.ensures c.if-refusal-ne0.false (λ k. omega (arith, bytes k)) in record { lent = r.0; gs_len = (r.1, r.2) }
 

@@ -11,5 +11,5 @@ returns c =
     let random = x.random.now in
     let gs = x.gs.now in
     let hs = x.hs.now in
-    let bytes = c.shared_slice_known-1.given in
+    let bytes = c.type_inv.key in
     (cc) ∙ sym (left-to-refuse key random gs hs (λ k. omega (arith, bytes k)))

@@ -7,12 +7,12 @@ use Rattle.c_api.proofs.mavdrusek_determines.Goals as goal
 
 pub returns-in-Yes : goal.returns-in-Yes
 returns-in-Yes c =
-    let e = ap paper_decided (sym c.enum_told-1.given.1) ∙ c.determines.ensures in record { answer = ap (λ (a : Answer). a.number) e; yes = ap (λ (a : Answer). place 0 a c.args.yes.now) e }
+    let e = ap paper_decided (sym c.in-Yes.is) ∙ c.determines.ensures in record { answer = ap (λ (a : Answer). a.number) e; yes = ap (λ (a : Answer). place 0 a c.args.yes.now) e }
 
 pub returns-in-No : goal.returns-in-No
 returns-in-No c =
-    let e = ap paper_decided (sym c.enum_told-in-No-1.given.1) ∙ c.determines.ensures in record { answer = ap (λ (a : Answer). a.number) e; yes = ap (λ (a : Answer). place 0 a c.args.yes.now) e }
+    let e = ap paper_decided (sym c.in-No.is) ∙ c.determines.ensures in record { answer = ap (λ (a : Answer). a.number) e; yes = ap (λ (a : Answer). place 0 a c.args.yes.now) e }
 
 pub returns-in-Refused : goal.returns-in-Refused
 returns-in-Refused c =
-    let e = ap paper_decided (sym c.k-1.given.1) ∙ c.determines.ensures in record { answer = ap (λ (a : Answer). a.number) e; yes = ap (λ (a : Answer). place 0 a c.args.yes.now) e }
+    let e = ap paper_decided (sym c.in-Refused.is) ∙ c.determines.ensures in record { answer = ap (λ (a : Answer). a.number) e; yes = ap (λ (a : Answer). place 0 a c.args.yes.now) e }

@@ -6,10 +6,10 @@ use Rattle.c_api.proofs.mavdrusek_field.Goals as goal
 
 pub returns-in-Of : goal.returns-in-Of
 returns-in-Of c =
-    let e = ap paper (sym c.enum_told-1.given.1) ∙ c.new.ensures in
+    let e = ap paper (sym c.in-Of.is) ∙ c.new.ensures in
     ap (λ (a : Answer). a.number) e
 
 pub returns-in-NoField : goal.returns-in-NoField
 returns-in-NoField c =
-    let e = ap paper (sym c.enum_told-in-NoField-1.given.1) ∙ c.new.ensures in
+    let e = ap paper (sym c.in-NoField.is) ∙ c.new.ensures in
     ap (λ (a : Answer). a.number) e

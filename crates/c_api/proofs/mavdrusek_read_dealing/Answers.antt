@@ -7,8 +7,8 @@ use Rattle.c_api.proofs.mavdrusek_read_dealing.Goals as goal
 
 pub returns-in-Is : goal.returns-in-Is
 returns-in-Is c =
-    let e = ap paper_dealing_read (sym c.x-1.given.1) ∙ c.read_dealing.ensures.answer in record { answer = ap (λ (a : Answer). a.number) e; dealing = ap (λ (a : Answer). place 0 a c.args.dealing.now) e; holder = ap (λ (a : Answer). place 1 a c.args.holder.now) e; row = c.read_dealing.ensures.row; column = c.read_dealing.ensures.column }
+    let e = ap paper_dealing_read (sym c.in-Is.is) ∙ c.read_dealing.ensures.answer in record { answer = ap (λ (a : Answer). a.number) e; dealing = ap (λ (a : Answer). place 0 a c.args.dealing.now) e; holder = ap (λ (a : Answer). place 1 a c.args.holder.now) e; row = c.read_dealing.ensures.row; column = c.read_dealing.ensures.column }
 
 pub returns-in-Refused : goal.returns-in-Refused
 returns-in-Refused c =
-    let e = ap paper_dealing_read (sym c.k-1.given.1) ∙ c.read_dealing.ensures.answer in record { answer = ap (λ (a : Answer). a.number) e; dealing = ap (λ (a : Answer). place 0 a c.args.dealing.now) e; holder = ap (λ (a : Answer). place 1 a c.args.holder.now) e; row = c.read_dealing.ensures.row; column = c.read_dealing.ensures.column }
+    let e = ap paper_dealing_read (sym c.in-Refused.is) ∙ c.read_dealing.ensures.answer in record { answer = ap (λ (a : Answer). a.number) e; dealing = ap (λ (a : Answer). place 0 a c.args.dealing.now) e; holder = ap (λ (a : Answer). place 1 a c.args.holder.now) e; row = c.read_dealing.ensures.row; column = c.read_dealing.ensures.column }

@@ -7,12 +7,12 @@ use Rattle.c_api.proofs.mavdrusek_superseding.Goals as goal
 
 pub returns-in-First : goal.returns-in-First
 returns-in-First c =
-    let e = ap paper_superseding (sym c.enum_told-1.given.1) ∙ c.superseding_record.ensures in record { answer = ap (λ (a : Answer). a.number) e; which = ap (λ (a : Answer). place 0 a c.args.which.now) e }
+    let e = ap paper_superseding (sym c.in-First.is) ∙ c.superseding_record.ensures in record { answer = ap (λ (a : Answer). a.number) e; which = ap (λ (a : Answer). place 0 a c.args.which.now) e }
 
 pub returns-in-Second : goal.returns-in-Second
 returns-in-Second c =
-    let e = ap paper_superseding (sym c.enum_told-in-Second-1.given.1) ∙ c.superseding_record.ensures in record { answer = ap (λ (a : Answer). a.number) e; which = ap (λ (a : Answer). place 0 a c.args.which.now) e }
+    let e = ap paper_superseding (sym c.in-Second.is) ∙ c.superseding_record.ensures in record { answer = ap (λ (a : Answer). a.number) e; which = ap (λ (a : Answer). place 0 a c.args.which.now) e }
 
 pub returns-in-Refused : goal.returns-in-Refused
 returns-in-Refused c =
-    let e = ap paper_superseding (sym c.k-1.given.1) ∙ c.superseding_record.ensures in record { answer = ap (λ (a : Answer). a.number) e; which = ap (λ (a : Answer). place 0 a c.args.which.now) e }
+    let e = ap paper_superseding (sym c.in-Refused.is) ∙ c.superseding_record.ensures in record { answer = ap (λ (a : Answer). a.number) e; which = ap (λ (a : Answer). place 0 a c.args.which.now) e }

@@ -6,4 +6,4 @@ pub returns-then-a-eq0 : goal.returns-then-a-eq0
 returns-then-a-eq0 c = inverse-of-zero _ c.requires.prime _ c.if-a-eq0.true
 
 pub returns-in-257 : goal.returns-in-257
-returns-in-257 c = rw c.in_default.keys1 c.inverse_257.ensures
+returns-in-257 c = rw c.in-257.is c.inverse_257.ensures

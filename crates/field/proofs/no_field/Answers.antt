@@ -6,7 +6,7 @@ use Rattle.field.proofs.Fields.{chosen_of, refused-of}
 use Rattle.field.proofs.no_field.Goals as goal
 
 pub returns-in-Of : goal.returns-in-Of
-returns-in-Of c = sym (ap not (chosen_of _ _ (ap paper (sym c.enum_told-1.given.1) ∙ c.new.ensures)).0)
+returns-in-Of c = sym (ap not (chosen_of _ _ (ap paper (sym c.in-Of.is) ∙ c.new.ensures)).0)
 
 pub returns-in-NoField : goal.returns-in-NoField
-returns-in-NoField c = sym (ap not (refused-of _ (ap paper (sym c.enum_told-in-NoField-1.given.1) ∙ c.new.ensures)))
+returns-in-NoField c = sym (ap not (refused-of _ (ap paper (sym c.in-NoField.is) ∙ c.new.ensures)))

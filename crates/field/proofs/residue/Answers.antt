@@ -2,16 +2,16 @@
 use Rattle.field.proofs.residue.Goals as goal
 
 pub returns-in-2 : goal.returns-in-2
-returns-in-2 c = rw c.in_default.keys1 c.remainder.ensures
+returns-in-2 c = rw c.in-2.is c.remainder.ensures
 
 pub returns-in-7 : goal.returns-in-7
-returns-in-7 c = rw c.in_default.keys2 c.remainder-in-7.ensures
+returns-in-7 c = rw c.in-7.is c.remainder-in-7.ensures
 
 pub returns-in-251 : goal.returns-in-251
-returns-in-251 c = rw c.in_default.keys3 c.remainder-in-251.ensures
+returns-in-251 c = rw c.in-251.is c.remainder-in-251.ensures
 
 pub returns-in-257 : goal.returns-in-257
-returns-in-257 c = rw c.in_default.keys4 c.remainder-in-257.ensures
+returns-in-257 c = rw c.in-257.is c.remainder-in-257.ensures
 
 pub returns-in-65521 : goal.returns-in-65521
-returns-in-65521 c = rw c.in_default.keys5 c.remainder-in-65521.ensures
+returns-in-65521 c = rw c.in-65521.is c.remainder-in-65521.ensures

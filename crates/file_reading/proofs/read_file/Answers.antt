@@ -112,7 +112,7 @@ pub returns-in-Kept : goal.returns-in-Kept
 returns-in-Kept c =
     let J = own-judged c.before.before.before.before.before.before.before.before.before in
     let C = contents c.before.before.before.before.before.before.before.before.before.before.before.before.before.before.before in
-    let e = sym (fate-is c.before.before.before.before.before.before.before.before.before.before) ∙ c.enum_told-in-Kept-1.given.1 in
+    let e = sym (fate-is c.before.before.before.before.before.before.before.before.before.before) ∙ c.in-Kept.is in
     tells-whole C _ (read_file (file c.before.before.before.before.before.before.before.before.before.before.before.before.before.before.before)) (agreed c.before.before.before.before.before)
     (told_is C _ _ _ _ _ _ _ _ (parts c.before.before.before.before.before.before.before.before.before.before.before.before.before.before.before).setup (parts c.before.before.before.before.before.before.before.before.before.before.before.before.before.before.before).dealing J.judgement (fate-is c.before.before.before.before.before.before.before.before.before.before)
     (kept-shares C.setup C.verdicts _ _ e J.shares) (tied c.before.before.before.before.before.before.before.before.before.before.before.before.before.before.before) (kept-shares C.setup C.verdicts _ _ e J.shares2) (none c.before.before.before.before.before.before.before.before.before.before.before.before.before.before.before))
@@ -121,7 +121,7 @@ pub returns-in-Aborted : goal.returns-in-Aborted
 returns-in-Aborted c =
     let J = own-judged c.before.before.before.before.before.before.before in
     let C = contents c.before.before.before.before.before.before.before.before.before.before.before.before.before in
-    let e = sym (fate-is c.before.before.before.before.before.before.before.before) ∙ c.enum_told-in-Aborted-1.given.1 in
+    let e = sym (fate-is c.before.before.before.before.before.before.before.before) ∙ c.in-Aborted.is in
     tells-whole C _ (read_file (file c.before.before.before.before.before.before.before.before.before.before.before.before.before)) (agreed c.before.before.before)
     (told_is C _ _ _ _ _ _ _ _ (parts c.before.before.before.before.before.before.before.before.before.before.before.before.before).setup (parts c.before.before.before.before.before.before.before.before.before.before.before.before.before).dealing J.judgement (fate-is c.before.before.before.before.before.before.before.before)
     (no-shares C.setup C.verdicts _ _ e) (tied c.before.before.before.before.before.before.before.before.before.before.before.before.before) (no-shares C.setup C.verdicts _ _ e) (none c.before.before.before.before.before.before.before.before.before.before.before.before.before))

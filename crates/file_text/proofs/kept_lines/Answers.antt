@@ -8,8 +8,8 @@ use Rattle.file_text.proofs.kept_lines.Goals as goal
 pub returns-in-Kept : goal.returns-in-Kept
 unfolding kept_lines
 returns-in-Kept c =
-    rw c.enum_told-1.given.1 (both c.column_lines-k.ensures c.column_lines.ensures)
+    rw c.in-Kept.is (both c.column_lines-k.ensures c.column_lines.ensures)
 
 pub returns-in-Aborted : goal.returns-in-Aborted
 unfolding kept_lines
-returns-in-Aborted c = rw c.enum_told-in-Aborted-1.given.1 (record { text = refl; place = omega arith; small = omega arith })
+returns-in-Aborted c = rw c.in-Aborted.is (record { text = refl; place = omega arith; small = omega arith })

@@ -7,9 +7,9 @@ use Rattle.file_text.proofs.outcome_line.Goals as goal
 pub returns-in-Kept : goal.returns-in-Kept
 unfolding outcome_line
 returns-in-Kept c =
-    rw c.enum_told-1.given.1 (more c.put_text.ensures (omega arith))
+    rw c.in-Kept.is (more c.put_text.ensures (omega arith))
 
 pub returns-in-Aborted : goal.returns-in-Aborted
 unfolding outcome_line
 returns-in-Aborted c =
-    rw c.fate-1.given.1 c.put_last.ensures
+    rw c.in-Aborted.is c.put_last.ensures

@@ -7,14 +7,14 @@ use Rattle.file_text.proofs.verdict_line.Goals as goal
 pub returns-in-Accept : goal.returns-in-Accept
 unfolding verdict_line
 returns-in-Accept c =
-    rw c.enum_told-1.given.1 (more c.put_text.ensures (omega arith))
+    rw c.in-Accept.is (more c.put_text.ensures (omega arith))
 
 pub returns-in-Reject : goal.returns-in-Reject
 unfolding verdict_line
 returns-in-Reject c =
-    rw c.judgement-1.given.1 c.put_last.ensures
+    rw c.in-Reject.is c.put_last.ensures
 
 pub returns-in-RejectMap : goal.returns-in-RejectMap
 unfolding verdict_line
 returns-in-RejectMap c =
-    rw c.enum_told-in-RejectMap-1.given.1 (more c.put_text-in-RejectMap.ensures (omega arith))
+    rw c.in-RejectMap.is (more c.put_text-in-RejectMap.ensures (omega arith))

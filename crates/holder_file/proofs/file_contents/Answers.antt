@@ -54,10 +54,7 @@ returns c =
     let z = fair c.before.before.before.before.before.before.before.before.before.before in
     let r = c.read_file-r in
     let C = contents s r.result r.ensures c.if-k-ne0.false in
-    let n = c.tell_numbers-all in record {
-      answer = whole-answer (λ D. []) (read_file s) C.contents C.is ∙ accepted (declines c.before.before.before.before.before.before.before.before.before.before.before) _ z;
-      buffer = written (declines c.before.before.before.before.before.before.before.before.before.before.before) _ _ _ z
+    let n = c.tell_numbers-all in record { answer = whole-answer (λ D. []) (read_file s) C.contents C.is ∙ accepted (declines c.before.before.before.before.before.before.before.before.before.before.before) _ z; buffer = written (declines c.before.before.before.before.before.before.before.before.before.before.before) _ _ _ z
           (c.copy.ensures ∙ copied n.result (buffer c.before.before.before.before.before.before.before.before.before.before.before) 27 n.ensures.1 (lent-means s (buffer c.before.before.before.before.before.before.before.before.before.before.before) 27 z).1 ∙ n.ensures.0
           ∙ ap numbers (told_is s r.result r.ensures c.if-k-ne0.false)
-          ∙ whole-left (λ D. numbers (told D)) (read_file s) C.contents (buffer c.before.before.before.before.before.before.before.before.before.before.before) C.is);
-    }
+          ∙ whole-left (λ D. numbers (told D)) (read_file s) C.contents (buffer c.before.before.before.before.before.before.before.before.before.before.before) C.is) }

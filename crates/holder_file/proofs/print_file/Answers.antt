@@ -28,18 +28,18 @@ answered c = c.holder_file.ensures.answer ∙ rw (fair c) refl
 
 pub overflow_cast-byte : goal.overflow_cast-byte
 overflow_cast-byte c =
-    omega (arith, c.requires.0, inside (file c.before.before.before.before.before.before) _ _ (at-answer _ (read_file (file c.before.before.before.before.before.before)) _ _ (ap paper_printing (sym c.k-1.given.1) ∙ answered c.before.before.before.before.before.before)))
+    omega (arith, c.requires.0, inside (file c.before.before.before.before.before.before) _ _ (at-answer _ (read_file (file c.before.before.before.before.before.before)) _ _ (ap paper_printing (sym c.in-RefusedAt.is) ∙ answered c.before.before.before.before.before.before)))
 
 pub returns-in-Bytes : goal.returns-in-Bytes
 returns-in-Bytes c =
-    bytes-answer (read_file (file c.before.before.before.before.before.before)) _ (buffer c.before.before.before.before.before.before) _ (ap paper_printing (sym c.n-1.given.1) ∙ answered c.before.before.before.before.before.before) (c.holder_file.ensures.buffer ∙ rw (fair c.before.before.before.before.before.before) refl)
+    bytes-answer (read_file (file c.before.before.before.before.before.before)) _ (buffer c.before.before.before.before.before.before) _ (ap paper_printing (sym c.in-Bytes.is) ∙ answered c.before.before.before.before.before.before) (c.holder_file.ensures.buffer ∙ rw (fair c.before.before.before.before.before.before) refl)
 
 pub returns-in-RefusedAt : goal.returns-in-RefusedAt
 returns-in-RefusedAt c =
-    let f = at-answer _ (read_file (file c.before.before.before.before.before.before.before.before.before.before)) _ _ (ap paper_printing (sym c.k-1.given.1) ∙ answered c.before.before.before.before.before.before.before.before.before.before) in
+    let f = at-answer _ (read_file (file c.before.before.before.before.before.before.before.before.before.before)) _ _ (ap paper_printing (sym c.in-RefusedAt.is) ∙ answered c.before.before.before.before.before.before.before.before.before.before) in
     printed-on (c.holder_file.ensures.buffer ∙ rw (fair c.before.before.before.before.before.before.before.before.before.before) (sym (refused-left _ (read_file (file c.before.before.before.before.before.before.before.before.before.before)) _ _ (buffer c.before.before.before.before.before.before.before.before.before.before) f)))
     (printed-as (ap line_of (sym f)) c.print_refusal.ensures)
 
 pub returns-in-Refused : goal.returns-in-Refused
 returns-in-Refused c =
-    absurd (never-plain (read_file (file c.before.before.before.before.before.before.before.before.before.before)) _ (ap paper_printing (sym c.k-in-Refused-1.given.1) ∙ answered c.before.before.before.before.before.before.before.before.before.before))
+    absurd (never-plain (read_file (file c.before.before.before.before.before.before.before.before.before.before)) _ (ap paper_printing (sym c.in-Refused.is) ∙ answered c.before.before.before.before.before.before.before.before.before.before))

@@ -4,10 +4,10 @@ use Rattle.holder_file.specs.Calls.{judged}
 use Rattle.holder_file.proofs.verdict_said.Goals as goal
 
 pub returns-in-Accept : goal.returns-in-Accept
-returns-in-Accept c = ap judged c.enum_told-1.given.1
+returns-in-Accept c = ap judged c.in-Accept.is
 
 pub returns-in-Reject : goal.returns-in-Reject
-returns-in-Reject c = ap judged c.judgement-1.given.1
+returns-in-Reject c = ap judged c.in-Reject.is
 
 pub returns-in-RejectMap : goal.returns-in-RejectMap
-returns-in-RejectMap c = ap judged c.enum_told-in-RejectMap-1.given.1
+returns-in-RejectMap c = ap judged c.in-RejectMap.is

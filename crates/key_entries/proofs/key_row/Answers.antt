@@ -6,16 +6,16 @@ use Rattle.key_entries.proofs.Entries.{seven, wide, of-key, of_row}
 use Rattle.key_entries.proofs.key_row.Goals as goal
 
 pub overflow_cast-result : goal.overflow_cast-result
-overflow_cast-result c = search (wide, c.shared_slice_known-1.given)
+overflow_cast-result c = search (wide, c.type_inv.key)
 
 pub overflow_cast-result-2 : goal.overflow_cast-result-2
-overflow_cast-result-2 c = search (wide, c.shared_slice_known-2-1.given)
+overflow_cast-result-2 c = search (wide, c.type_inv.key)
 
 pub overflow_cast-result-3 : goal.overflow_cast-result-3
-overflow_cast-result-3 c = search (wide, c.shared_slice_known-3-1.given)
+overflow_cast-result-3 c = search (wide, c.type_inv.key)
 
 pub overflow_cast-result-4 : goal.overflow_cast-result-4
-overflow_cast-result-4 c = search (wide, c.shared_slice_known-4-1.given)
+overflow_cast-result-4 c = search (wide, c.type_inv.key)
 
 pub returns : goal.returns
 returns c =

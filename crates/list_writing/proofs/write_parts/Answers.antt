@@ -41,9 +41,6 @@ put_dealing-requires c =
 pub returns : goal.returns
 returns c =
     let x = c.args in
-    let z = none c.before.before.before.before.before in record {
-      answer = accepted _ _ z;
-      buffer = written _ _ _ _ z
+    let z = none c.before.before.before.before.before in record { answer = accepted _ _ z; buffer = written _ _ _ _ z
           (c.put_dealing.ensures
-          ∙ filled (parts_in x.mark x.many) (lawful x.mark x.many) (setup_of x.s []) (parts x.x x.g.now x.h.now) x.out.now z);
-    }
+          ∙ filled (parts_in x.mark x.many) (lawful x.mark x.many) (setup_of x.s []) (parts x.x x.g.now x.h.now) x.out.now z) }

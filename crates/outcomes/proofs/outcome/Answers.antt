@@ -31,12 +31,12 @@ pub returns-in-Aborted : goal.returns-in-Aborted
 returns-in-Aborted c =
     let x = c.args in
     let z = sym c.outcome_refusal-refusal.ensures ∙ c.if-refusal-ne0.false in
-    let e = sym c.i-1.given.1 ∙ c.fate.ensures in record { answer = rw z (ap paper_fate e); left = rw (z, not-kept (setup_of x.s []) x.verdicts.now _ e) refl }
+    let e = sym c.in-Aborted.is ∙ c.fate.ensures in record { answer = rw z (ap paper_fate e); left = rw (z, not-kept (setup_of x.s []) x.verdicts.now _ e) refl }
 
 pub returns-in-Kept : goal.returns-in-Kept
 returns-in-Kept c =
     let x = c.args in
     let z = sym c.outcome_refusal-refusal.ensures ∙ c.if-refusal-ne0.false in
-    let e = sym c.enum_told-1.given.1 ∙ c.fate.ensures in
+    let e = sym c.in-Kept.is ∙ c.fate.ensures in
     let S = setup_of x.s [] in
     let ok = outcome-ok S x.g.now x.verdicts.now x.shares.now z in record { answer = rw z (ap paper_fate e); left = rw (z, kept-means S x.verdicts.now (sym (ap paper_fate e)), ← ok.room) c.keep_shares.ensures }

@@ -8,9 +8,9 @@ use Rattle.places.proofs.share_read.Goals as goal
 pub returns-in-Is : goal.returns-in-Is
 returns-in-Is c =
     let s = c.args in
-    let e = ap paper_share_read (sym c.answer-1.given.1) in record { value = ap (λ (a : Answer). a.number) e; dealing_after = ap (λ (a : Answer). place 0 a s.dealing.now) e; holder_after = ap (λ (a : Answer). place 1 a s.holder.now) e; column_after = ap (λ (a : Answer). place 2 a s.column.now) e; value_after = ap (λ (a : Answer). place 3 a s.value.now) e; round_after = ap (λ (a : Answer). place 4 a s.round.now) e }
+    let e = ap paper_share_read (sym c.in-Is.is) in record { value = ap (λ (a : Answer). a.number) e; dealing_after = ap (λ (a : Answer). place 0 a s.dealing.now) e; holder_after = ap (λ (a : Answer). place 1 a s.holder.now) e; column_after = ap (λ (a : Answer). place 2 a s.column.now) e; value_after = ap (λ (a : Answer). place 3 a s.value.now) e; round_after = ap (λ (a : Answer). place 4 a s.round.now) e }
 
 pub returns-in-Refused : goal.returns-in-Refused
 returns-in-Refused c =
     let s = c.args in
-    let e = ap paper_share_read (sym c.answer-in-Refused-1.given.1) in record { value = ap (λ (a : Answer). a.number) e; dealing_after = ap (λ (a : Answer). place 0 a s.dealing.now) e; holder_after = ap (λ (a : Answer). place 1 a s.holder.now) e; column_after = ap (λ (a : Answer). place 2 a s.column.now) e; value_after = ap (λ (a : Answer). place 3 a s.value.now) e; round_after = ap (λ (a : Answer). place 4 a s.round.now) e }
+    let e = ap paper_share_read (sym c.in-Refused.is) in record { value = ap (λ (a : Answer). a.number) e; dealing_after = ap (λ (a : Answer). place 0 a s.dealing.now) e; holder_after = ap (λ (a : Answer). place 1 a s.holder.now) e; column_after = ap (λ (a : Answer). place 2 a s.column.now) e; value_after = ap (λ (a : Answer). place 3 a s.value.now) e; round_after = ap (λ (a : Answer). place 4 a s.round.now) e }

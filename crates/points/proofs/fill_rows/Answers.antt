@@ -8,7 +8,7 @@ fill_rows_by-requires c = (
   omega arith,
   c.requires.d_bound.0,
   c.requires.d_bound.1,
-  rw c.in_default.keys1 at c.requires.d_bound.2,
+  rw c.in-2.is at c.requires.d_bound.2,
   c.requires.d_bound.3,
 )
 
@@ -17,7 +17,7 @@ fill_rows_by-requires-in-7 c = (
   omega arith,
   c.requires.d_bound.0,
   c.requires.d_bound.1,
-  rw c.in_default.keys2 at c.requires.d_bound.2,
+  rw c.in-7.is at c.requires.d_bound.2,
   c.requires.d_bound.3,
 )
 
@@ -26,7 +26,7 @@ fill_rows_by-requires-in-251 c = (
   omega arith,
   c.requires.d_bound.0,
   c.requires.d_bound.1,
-  rw c.in_default.keys3 at c.requires.d_bound.2,
+  rw c.in-251.is at c.requires.d_bound.2,
   c.requires.d_bound.3,
 )
 
@@ -35,13 +35,13 @@ fill_rows_by-requires-in-257 c = (
   omega arith,
   c.requires.d_bound.0,
   c.requires.d_bound.1,
-  rw c.in_default.keys4 at c.requires.d_bound.2,
+  rw c.in-257.is at c.requires.d_bound.2,
   c.requires.d_bound.3,
 )
 
 pub fill_rows_by-requires-in_default : goal.fill_rows_by-requires-in_default
 fill_rows_by-requires-in_default c =
-    let n = c.in_default.rest in (
+    let n = c.in_default.in_default-own.rest in (
       omega arith,
       c.requires.d_bound.0,
       c.requires.d_bound.1,
@@ -50,18 +50,18 @@ fill_rows_by-requires-in_default c =
     )
 
 pub returns-in-2 : goal.returns-in-2
-returns-in-2 c = rw c.in_default.keys1 c.fill_rows_by.ensures
+returns-in-2 c = rw c.in-2.is c.fill_rows_by.ensures
 
 pub returns-in-7 : goal.returns-in-7
-returns-in-7 c = rw c.in_default.keys2 c.fill_rows_by-in-7.ensures
+returns-in-7 c = rw c.in-7.is c.fill_rows_by-in-7.ensures
 
 pub returns-in-251 : goal.returns-in-251
-returns-in-251 c = rw c.in_default.keys3 c.fill_rows_by-in-251.ensures
+returns-in-251 c = rw c.in-251.is c.fill_rows_by-in-251.ensures
 
 pub returns-in-257 : goal.returns-in-257
-returns-in-257 c = rw c.in_default.keys4 c.fill_rows_by-in-257.ensures
+returns-in-257 c = rw c.in-257.is c.fill_rows_by-in-257.ensures
 
 pub returns-in_default : goal.returns-in_default
 returns-in_default c =
-    let n = c.in_default.rest in
+    let n = c.in_default.in_default-own.rest in
     rw (largest c.args.p c.requires.p_value n.0.0.0.1 n.0.0.1 n.0.1 n.1) c.fill_rows_by-in_default.ensures

@@ -32,11 +32,12 @@ bounds-held-i c =
     omega (arith, c.loop-i.invariant.1, c.requires.held_len, c.loop-i-test.true)
 
 pub loop-i-preserved : goal.loop-i-preserved
-loop-i-preserved c = (
-  search rules,
-  length-set c.loop-i.held c.loop-i.i c.residue.result ∙ c.loop-i.invariant.1,
-  filled-store _ _ _ _ _ c.loop-i.invariant.2 (rw (← read c.before.before) c.residue.ensures),
-)
+loop-i-preserved c =
+    (
+      search rules,
+      length-set c.loop-i.held c.loop-i.i c.residue.result ∙ c.loop-i.invariant.1,
+      filled-store _ _ _ _ _ c.loop-i.invariant.2 (rw (← read c.before.before) c.residue.ensures),
+    )
 
 pub returns : goal.returns
 unfolding residues

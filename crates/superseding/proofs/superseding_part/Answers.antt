@@ -12,10 +12,10 @@ use Rattle.superseding.proofs.superseding_part.Tie as tie
 use Rattle.superseding.proofs.superseding_part.Goals as goal
 
 first-is : (c : tie.In-First) → let x = c.args in given (1 ∷ []) ≡ superseding_call (setup_of x.s []) x.first.now x.second.now
-first-is c = ap paper_superseding (sym c.enum_told-1.given.1) ∙ c.superseding_record.ensures
+first-is c = ap paper_superseding (sym c.in-First.is) ∙ c.superseding_record.ensures
 
 second_is : (c : tie.In-Second) → let x = c.args in given (2 ∷ []) ≡ superseding_call (setup_of x.s []) x.first.now x.second.now
-second_is c = ap paper_superseding (sym c.enum_told-in-Second-1.given.1) ∙ c.superseding_record.ensures
+second_is c = ap paper_superseding (sym c.in-Second.is) ∙ c.superseding_record.ensures
 
 pub slice_bounds-result-end : goal.slice_bounds-result-end
 slice_bounds-result-end c =
@@ -40,4 +40,4 @@ returns-in-Second c =
 pub returns-in-Refused : goal.returns-in-Refused
 returns-in-Refused c =
     let x = c.args in
-    let r = none (setup_of x.s []) x.first.now x.second.now _ (ap paper_superseding (sym c.enum_told-in-Refused-1.given.1) ∙ c.superseding_record.ensures) in record { content = sym r.0; place = ap (λ (t : Bool). pick t x.second.ptr x.first.ptr) (sym r.1) }
+    let r = none (setup_of x.s []) x.first.now x.second.now _ (ap paper_superseding (sym c.in-Refused.is) ∙ c.superseding_record.ensures) in record { content = sym r.0; place = ap (λ (t : Bool). pick t x.second.ptr x.first.ptr) (sym r.1) }

@@ -9,8 +9,8 @@ use Rattle.superseding.proofs.superseding_record.Tie as tie
 use Rattle.superseding.proofs.superseding_record.Goals as goal
 
 first_read : (c : tie.In-Is-2) → let x = c.args in
-    given (share_values c.x-1.given.0.0) ≡ read_share_call (setup_of x.s []) x.first.now
-first_read c = ap paper_share_read (sym c.x-1.given.1) ∙ c.read_share.ensures
+    given (share_values c.in-Is.x) ≡ read_share_call (setup_of x.s []) x.first.now
+first_read c = ap paper_share_read (sym c.in-Is.is) ∙ c.read_share.ensures
 
 pub returns-in-Is-read_share : goal.returns-in-Is-read_share
 returns-in-Is-read_share c =
@@ -18,17 +18,17 @@ returns-in-Is-read_share c =
     c.newer.ensures
     ∙ both-given (setup_of x.s []) x.first.now x.second.now _ _
     (first_read c.before.before.before.before.before.before.before)
-    (ap paper_share_read (sym c.y-1.given.1) ∙ c.read_share-in-Is.ensures)
+    (ap paper_share_read (sym c.in-Is-read_share.is) ∙ c.read_share-in-Is.ensures)
 
 pub returns-in-Refused-read_share : goal.returns-in-Refused-read_share
 returns-in-Refused-read_share c =
     let x = c.args in
     second-refused (setup_of x.s []) x.first.now x.second.now _ _
     (first_read c.before.before.before.before.before.before)
-    (ap paper_share_read (sym c.k-1.given.1) ∙ c.read_share-in-Is.ensures)
+    (ap paper_share_read (sym c.in-Refused-read_share.is) ∙ c.read_share-in-Is.ensures)
 
 pub returns-in-Refused : goal.returns-in-Refused
 returns-in-Refused c =
     let x = c.args in
     first-refused (setup_of x.s []) x.first.now x.second.now _
-    (ap paper_share_read (sym c.k-in-Refused-read_share-1.given.1) ∙ c.read_share.ensures)
+    (ap paper_share_read (sym c.in-Refused.is) ∙ c.read_share.ensures)
