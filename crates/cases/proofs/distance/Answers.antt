@@ -9,13 +9,13 @@ use lib.Signed.{lt_z}
 use mir.Syntax.{w32}
 use mir.Val.{SFits, to_z, of_z}
 use mir.Facts.{to_z-of_z, to_z_pos}
-use Rattle.cases.proofs.distance.Tie as tie
 use Rattle.cases.proofs.distance.Goals as goal
 
 record Below (z : ℤ) : Type 0 where
   number : ℕ
   is : negsuc 0 -ℤ z ≡ pos number
   small : number < 2147483648
+
 record Above (z : ℤ) : Type 0 where
   number : ℕ
   is : z ≡ pos number
@@ -31,25 +31,27 @@ above : (z : ℤ) → SFits w32 z → lt_z z (pos 0) ≡ false → Above z
 above (pos n) f e = record { number = n; is = refl; small = omega (arith, f.sfits) }
 above (negsuc n) f e = absurd (false≢true (sym e))
 
-turned : (c : tie.Then-x-lt0) → Below c.args.x
-turned c = below c.args.x c.ranges.x (rw (to_z-of_z c.ranges.x) at c.if-x-lt0.true)
-
 -- what -1 less the number is, read back from its bits
 
-is : (c : tie.Then-x-lt0) → negsuc 0 -ℤ to_z w32 (of_z w32 c.args.x) ≡ pos (turned c).number
-is c = rw (to_z-of_z c.ranges.x) (turned c).is
-
-kept : (c : tie.Then-x-lt0) → to_z w32 (turned c).number ≡ pos (turned c).number
-kept c = to_z_pos w32 {n = (turned c).number} (turned c).small
-
 pub overflow_sub-turned : goal.overflow_sub-turned
-overflow_sub-turned c = rw (is c.before) (record { sfits = omega (arith, (turned c.before).small) })
+overflow_sub-turned c =
+    let turned : Below c.args.x = below c.args.x c.ranges.x (rw (to_z-of_z c.ranges.x) at c.if-x-lt0.true) in
+    let is : negsuc 0 -ℤ to_z w32 (of_z w32 c.args.x) ≡ pos turned.number = rw (to_z-of_z c.ranges.x) turned.is in
+    rw is (record { sfits = omega (arith, turned.small) })
 
 pub overflow_cast-result : goal.overflow_cast-result
-overflow_cast-result c = rw (is c.before, kept c.before) (tt, record { fits = omega (arith, (turned c.before).small) })
+overflow_cast-result c =
+    let turned : Below c.args.x = below c.args.x c.ranges.x (rw (to_z-of_z c.ranges.x) at c.if-x-lt0.true) in
+    let is : negsuc 0 -ℤ to_z w32 (of_z w32 c.args.x) ≡ pos turned.number = rw (to_z-of_z c.ranges.x) turned.is in
+    let kept : to_z w32 turned.number ≡ pos turned.number = to_z_pos w32 {n = turned.number} turned.small in
+    rw (is, kept) (tt, record { fits = omega (arith, turned.small) })
 
 pub overflow_add-result : goal.overflow_add-result
-overflow_add-result c = rw (is c.before, kept c.before) (record { fits = omega (arith, (turned c.before).small) })
+overflow_add-result c =
+    let turned : Below c.args.x = below c.args.x c.ranges.x (rw (to_z-of_z c.ranges.x) at c.if-x-lt0.true) in
+    let is : negsuc 0 -ℤ to_z w32 (of_z w32 c.args.x) ≡ pos turned.number = rw (to_z-of_z c.ranges.x) turned.is in
+    let kept : to_z w32 turned.number ≡ pos turned.number = to_z_pos w32 {n = turned.number} turned.small in
+    rw (is, kept) (record { fits = omega (arith, turned.small) })
 
 pub overflow_cast-result-2 : goal.overflow_cast-result-2
 overflow_cast-result-2 c =

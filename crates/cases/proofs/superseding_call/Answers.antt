@@ -5,17 +5,19 @@ use mathlib.Core.Path.{sym}
 use lib.ListN.{length}
 use lib.Seq.{length-take-le}
 use native.Mathlib.Omega.{arith}
-use Rattle.cases.proofs.superseding_call.Tie as tie
 use Rattle.cases.proofs.superseding_call.Goals as goal
 
-within : (c : tie.Joined-k-both) → c.if-k-both.len ≤ length c.args.both.now
-within c = ⊎_elim (λ w. omega arith) (λ w. omega arith) c.if-k-both.branch-raw
-
 pub slice_bounds-first-end : goal.slice_bounds-first-end
-slice_bounds-first-end c = sym (length-take-le _ _ (within c.before))
+slice_bounds-first-end c =
+    let within : c.if-k-both.len ≤ length c.args.both.now = ⊎_elim (λ w. omega arith) (λ w. omega arith) c.if-k-both.branch-raw in
+    sym (length-take-le _ _ within)
 
 pub slice_bounds-second-count : goal.slice_bounds-second-count
-slice_bounds-second-count c = within c.before.before
+slice_bounds-second-count c =
+    let within : c.if-k-both.len ≤ length c.args.both.now = ⊎_elim (λ w. omega arith) (λ w. omega arith) c.if-k-both.branch-raw in
+    within
 
 pub slice_bounds-second-start : goal.slice_bounds-second-start
-slice_bounds-second-start c = within c.before.before
+slice_bounds-second-start c =
+    let within : c.if-k-both.len ≤ length c.args.both.now = ⊎_elim (λ w. omega arith) (λ w. omega arith) c.if-k-both.branch-raw in
+    within

@@ -17,31 +17,9 @@ use Rattle.scheme.specs.Calls.{combine_rules}
 use Rattle.scheme.proofs.Calls.{combine-ok}
 use Rattle.combining.specs.Inner.{even, as_long}
 use Rattle.combining.proofs.Even.{long-is, combine-long, combine-even, combine-fine, no-field-refused}
-use Rattle.combining.proofs.combine.Tie as tie
 use Rattle.combining.proofs.combine.Goals as goal
 
-long : (c : tie.Else-not-as_long) → let x = c.args in as_long (length x.constants.now) (length x.shares.now) (length x.rounds.now) ≡ true
-long c = sym c.as_long.ensures ∙ not-false _ c.if-not-as_long.false
-
-passed : (c : tie.After-odd-odd) → let x = c.args in
-    eqb c.odd-odd.result 0
-    ≡ every (length x.constants.now) (even ((x.p + 65535) % 65536) x.constants.now x.shares.now x.rounds.now (round_of x.rounds.now))
-passed c =
-    let x = c.args in
-    let cs = x.constants.now in
-    let r = c.round_of-round in
-    c.odd-odd.ensures
-    ∙ ap (λ m. every (length cs) (even m cs x.shares.now x.rounds.now r.result)) c.one_less.ensures
-    ∙ ap (λ y. every (length cs) (even ((x.p + 65535) % 65536) cs x.shares.now x.rounds.now y)) r.ensures
-
 -- nothing is refused
-
-fine : (c : tie.Else-no_field) → let x = c.args in
-    refusal (combine_rules x.p x.constants.now x.shares.now x.rounds.now) ≡ 0
-fine c =
-    let x = c.args in
-    combine-fine x.p x.constants.now x.shares.now x.rounds.now (not-false _ (sym c.no_field.ensures ∙ c.if-no_field.false)) (long c.before.before.before.before.before.before.before)
-    (sym (passed c.before.before.before.before) ∙ eq-eqb c.odd-odd.result 0 c.if-odd-ne0.false)
 
 pub returns-then-not-as_long : goal.returns-then-not-as_long
 returns-then-not-as_long c =
@@ -53,22 +31,30 @@ returns-then-not-as_long c =
 
 pub odd-odd-requires : goal.odd-odd-requires
 odd-odd-requires c =
+    let long : let x = c.args in as_long (length x.constants.now) (length x.shares.now) (length x.rounds.now) ≡ true = sym c.as_long.ensures ∙ not-false _ c.if-not-as_long.false in
     let x = c.args in
-    let l = long-is x.p x.constants.now x.shares.now x.rounds.now (long c.before.before.before) in
+    let l = long-is x.p x.constants.now x.shares.now x.rounds.now long in
     (l.0, l.1)
 
 pub products-sum-requires : goal.products-sum-requires
 products-sum-requires c =
+    let long : let x = c.args in as_long (length x.constants.now) (length x.shares.now) (length x.rounds.now) ≡ true = sym c.as_long.ensures ∙ not-false _ c.if-not-as_long.false in
     let x = c.args in
-    let l = long-is x.p x.constants.now x.shares.now x.rounds.now (long c.before.before.before.before) in
+    let l = long-is x.p x.constants.now x.shares.now x.rounds.now long in
     (l.0, l.2)
 
 pub returns-then-odd-ne0 : goal.returns-then-odd-ne0
 returns-then-odd-ne0 c =
+    let passed : let x = c.args in eqb c.odd-odd.result 0 ≡ every (length x.constants.now) (even ((x.p + 65535) % 65536) x.constants.now x.shares.now x.rounds.now (round_of x.rounds.now)) = let x = c.args in
+    let cs = x.constants.now in
+    let r = c.round_of-round in
+    c.odd-odd.ensures
+    ∙ ap (λ m. every (length cs) (even m cs x.shares.now x.rounds.now r.result)) c.one_less.ensures
+    ∙ ap (λ y. every (length cs) (even ((x.p + 65535) % 65536) cs x.shares.now x.rounds.now y)) r.ensures in
     let x = c.args in
     rw (← c.combine_refusal-then-odd-ne0.ensures)
     (declined _ _ (λ z.
-    c.if-odd-ne0.true (eqb-true c.odd-odd.result 0 (passed c.before.before.before.before
+    c.if-odd-ne0.true (eqb-true c.odd-odd.result 0 (passed
     ∙ combine-even x.p x.constants.now x.shares.now x.rounds.now (sym c.combine_refusal-then-odd-ne0.ensures ∙ z)))))
 
 pub returns-then-no_field : goal.returns-then-no_field
@@ -78,12 +64,32 @@ returns-then-no_field c =
 
 pub residue-value-requires : goal.residue-value-requires
 residue-value-requires c =
+    let long : let x = c.args in as_long (length x.constants.now) (length x.shares.now) (length x.rounds.now) ≡ true = sym c.as_long.ensures ∙ not-false _ c.if-not-as_long.false in
+    let passed : let x = c.args in eqb c.odd-odd.result 0 ≡ every (length x.constants.now) (even ((x.p + 65535) % 65536) x.constants.now x.shares.now x.rounds.now (round_of x.rounds.now)) = let x = c.args in
+    let cs = x.constants.now in
+    let r = c.round_of-round in
+    c.odd-odd.ensures
+    ∙ ap (λ m. every (length cs) (even m cs x.shares.now x.rounds.now r.result)) c.one_less.ensures
+    ∙ ap (λ y. every (length cs) (even ((x.p + 65535) % 65536) cs x.shares.now x.rounds.now y)) r.ensures in
+    let fine : let x = c.args in refusal (combine_rules x.p x.constants.now x.shares.now x.rounds.now) ≡ 0 = let x = c.args in
+    combine-fine x.p x.constants.now x.shares.now x.rounds.now (not-false _ (sym c.no_field.ensures ∙ c.if-no_field.false)) long
+    (sym passed ∙ eq-eqb c.odd-odd.result 0 c.if-odd-ne0.false) in
     let x = c.args in
-    omega (arith, (field-prime x.p (combine-ok x.p x.constants.now x.shares.now x.rounds.now (fine c.before)).field).big)
+    omega (arith, (field-prime x.p (combine-ok x.p x.constants.now x.shares.now x.rounds.now fine).field).big)
 
 pub returns : goal.returns
 unfolding combine
 returns c =
+    let long : let x = c.args in as_long (length x.constants.now) (length x.shares.now) (length x.rounds.now) ≡ true = sym c.as_long.ensures ∙ not-false _ c.if-not-as_long.false in
+    let passed : let x = c.args in eqb c.odd-odd.result 0 ≡ every (length x.constants.now) (even ((x.p + 65535) % 65536) x.constants.now x.shares.now x.rounds.now (round_of x.rounds.now)) = let x = c.args in
+    let cs = x.constants.now in
+    let r = c.round_of-round in
+    c.odd-odd.ensures
+    ∙ ap (λ m. every (length cs) (even m cs x.shares.now x.rounds.now r.result)) c.one_less.ensures
+    ∙ ap (λ y. every (length cs) (even ((x.p + 65535) % 65536) cs x.shares.now x.rounds.now y)) r.ensures in
+    let fine : let x = c.args in refusal (combine_rules x.p x.constants.now x.shares.now x.rounds.now) ≡ 0 = let x = c.args in
+    combine-fine x.p x.constants.now x.shares.now x.rounds.now (not-false _ (sym c.no_field.ensures ∙ c.if-no_field.false)) long
+    (sym passed ∙ eq-eqb c.odd-odd.result 0 c.if-odd-ne0.false) in
     let x = c.args in
     let r = c.round_of-round in
-    rw (fine c.before.before, ← r.ensures) (ap (λ v. given (v ∷ r.result ∷ [])) (c.residue-value.ensures ∙ ap (λ n. n % x.p) c.products-sum.ensures))
+    rw (fine, ← r.ensures) (ap (λ v. given (v ∷ r.result ∷ [])) (c.residue-value.ensures ∙ ap (λ n. n % x.p) c.products-sum.ensures))

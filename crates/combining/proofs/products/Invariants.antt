@@ -4,7 +4,6 @@ use mathlib.Core.Path.{◌≡◌}
 use lib.ListN.{length}
 use Rattle.base.specs.Sum.{sum}
 use Rattle.field.specs.Dot.{at, dot}
-use Rattle.combining.proofs.products.Tie as tie
 use Rattle.combining.proofs.products.Given as goal
 
 abbrev pub invariant-loop-k : goal.invariant-loop-k

@@ -9,24 +9,25 @@ use Rattle.field.proofs.Fields.{field-prime}
 use Rattle.scheme.specs.Opening.{refresh}
 use Rattle.scheme.specs.Calls.{refresh_rules}
 use Rattle.scheme.proofs.Calls.{RefreshOk, refresh-ok}
-use Rattle.combining.proofs.refresh.Tie as tie
 use Rattle.combining.proofs.refresh.Goals as goal
-
-none : (c : tie.Else-refusal-ne0) → let x = c.args in refusal (refresh_rules x.p x.share x.round x.zero) ≡ 0
-none c = sym c.refresh_refusal-refusal.ensures ∙ c.if-refusal-ne0.false
-
-ok : (c : tie.Else-refusal-ne0) → let x = c.args in RefreshOk x.p x.share x.round x.zero
-ok c = refresh-ok _ _ _ _ (none c)
 
 pub returns-then-refusal-ne0 : goal.returns-then-refusal-ne0
 returns-then-refusal-ne0 c = rw (← c.refresh_refusal-refusal.ensures) (declined _ _ c.if-refusal-ne0.true)
 
 pub residue-value-requires : goal.residue-value-requires
-residue-value-requires c = omega (arith, (field-prime _ (ok c.before).field).big)
+residue-value-requires c =
+    let none : let x = c.args in refusal (refresh_rules x.p x.share x.round x.zero) ≡ 0 = sym c.refresh_refusal-refusal.ensures ∙ c.if-refusal-ne0.false in
+    let ok : let x = c.args in RefreshOk x.p x.share x.round x.zero = refresh-ok _ _ _ _ none in
+    omega (arith, (field-prime _ ok.field).big)
 
 pub overflow_add-result : goal.overflow_add-result
-overflow_add-result c = omega (arith, (ok c.before.before).next)
+overflow_add-result c =
+    let none : let x = c.args in refusal (refresh_rules x.p x.share x.round x.zero) ≡ 0 = sym c.refresh_refusal-refusal.ensures ∙ c.if-refusal-ne0.false in
+    let ok : let x = c.args in RefreshOk x.p x.share x.round x.zero = refresh-ok _ _ _ _ none in
+    omega (arith, ok.next)
 
 pub returns : goal.returns
 unfolding refresh
-returns c = rw (none c.before.before) (ap (λ v. given (v ∷ (c.args.round + 1) ∷ [])) c.residue-value.ensures)
+returns c =
+    let none : let x = c.args in refusal (refresh_rules x.p x.share x.round x.zero) ≡ 0 = sym c.refresh_refusal-refusal.ensures ∙ c.if-refusal-ne0.false in
+    rw none (ap (λ v. given (v ∷ (c.args.round + 1) ∷ [])) c.residue-value.ensures)

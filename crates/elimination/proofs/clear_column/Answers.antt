@@ -13,32 +13,7 @@ use Rattle.row_steps.specs.Rows.{add_row}
 use Rattle.elimination.specs.Elimination.{clear_to}
 use Rattle.elimination.specs.Inner.{other_entry}
 use Rattle.elimination.proofs.Flat.{clear-start, other_row, other-below, row-passed, row-cleared, length-clear, rows-below, rows_step, count-step}
-use Rattle.elimination.proofs.clear_column.Tie as tie
 use Rattle.elimination.proofs.clear_column.Goals as goal
-
-is-inside : (c : tie.After-other_entry-f goal.the-invariant-loop-t goal.the-decreases-loop-t) → c.loop-t.invariant.0 < c.args.rows
-is-inside c = row_inside c.args.rows c.args.width c.loop-t.invariant.0 _ c.loop-t.invariant.2 (omega arith)
-
-read : (c : tie.After-other_entry-f goal.the-invariant-loop-t goal.the-decreases-loop-t)
-    → c.other_entry-f.result ≡ other_entry c.loop-t.a (c.loop-t.invariant.0 * c.args.width) (c.args.k * c.args.width) c.args.col
-read c = c.other_entry-f.ensures ∙ ap (λ (z : ℕ). other_entry c.loop-t.a z (c.args.k * c.args.width) c.args.col) c.loop-t.invariant.2
-
-below : (c : tie.After-other_entry-f goal.the-invariant-loop-t goal.the-decreases-loop-t) → Below c.args.p c.loop-t.a
-below c =
-    let x = c.args in
-    let l = c.loop-t in
-    rows-below x.p x.width x.k x.col l.invariant.0 x.a.now l.a l.invariant.3 c.requires.a_len.3 c.requires.below
-
-small : (c : tie.After-other_entry-f goal.the-invariant-loop-t goal.the-decreases-loop-t) → c.other_entry-f.result < c.args.p
-small c =
-    let x = c.args in
-    let l = c.loop-t in
-    other-below x.p x.width x.k x.col l.invariant.0 c.other_entry-f.result l.a (omega arith) (read c) c.requires.a_len.3 (below c)
-
-size : (c : tie.At-loop-t goal.the-invariant-loop-t goal.the-decreases-loop-t) → length c.loop-t.a ≡ length c.args.a.now
-size c =
-    let x = c.args in
-    ap length c.loop-t.invariant.3 ∙ length-clear x.p x.width x.k x.col c.loop-t.invariant.0 x.a.now
 
 pub overflow_mul-q : goal.overflow_mul-q
 overflow_mul-q c = let x = c.args in omega (arith, row_fits x.rows x.width x.k (omega arith))
@@ -49,35 +24,59 @@ loop-t-init c = (0, omega arith, omega arith, clear-start _ _ _ _ _, refl)
 
 pub other_entry-f-requires : goal.other_entry-f-requires
 other_entry-f-requires c =
+    let size : length c.loop-t.a ≡ length c.args.a.now = let x = c.args in
+    ap length c.loop-t.invariant.3 ∙ length-clear x.p x.width x.k x.col c.loop-t.invariant.0 x.a.now in
     let x = c.args in
     let i = c.loop-t.invariant in
-    omega (arith, row_fits x.rows x.width i.0 (row_inside x.rows x.width i.0 _ i.2 (omega arith)), i.2, size c.before.before)
+    omega (arith, row_fits x.rows x.width i.0 (row_inside x.rows x.width i.0 _ i.2 (omega arith)), i.2, size)
 
 pub overflow_add-steps : goal.overflow_add-steps
 overflow_add-steps c =
+    let is-inside : c.loop-t.invariant.0 < c.args.rows = row_inside c.args.rows c.args.width c.loop-t.invariant.0 _ c.loop-t.invariant.2 (omega arith) in
     let x = c.args in
     let i = c.loop-t.invariant in
-    omega (arith, i.4, is-inside c.before.before, others-le i.0 x.k (λ j. entry x.width x.a.now j x.col))
+    omega (arith, i.4, is-inside, others-le i.0 x.k (λ j. entry x.width x.a.now j x.col))
 
 pub overflow_sub-p : goal.overflow_sub-p
-overflow_sub-p c = omega (arith, small c.before.before.before)
+overflow_sub-p c =
+    let read : c.other_entry-f.result ≡ other_entry c.loop-t.a (c.loop-t.invariant.0 * c.args.width) (c.args.k * c.args.width) c.args.col = c.other_entry-f.ensures ∙ ap (λ (z : ℕ). other_entry c.loop-t.a z (c.args.k * c.args.width) c.args.col) c.loop-t.invariant.2 in
+    let below : Below c.args.p c.loop-t.a = let x = c.args in
+    let l = c.loop-t in
+    rows-below x.p x.width x.k x.col l.invariant.0 x.a.now l.a l.invariant.3 c.requires.a_len.3 c.requires.below in
+    let small : c.other_entry-f.result < c.args.p = let x = c.args in
+    let l = c.loop-t in
+    other-below x.p x.width x.k x.col l.invariant.0 c.other_entry-f.result l.a (omega arith) read c.requires.a_len.3 below in
+    omega (arith, small)
 
 pub add_row-requires : goal.add_row-requires
 add_row-requires c =
+    let read : c.other_entry-f.result ≡ other_entry c.loop-t.a (c.loop-t.invariant.0 * c.args.width) (c.args.k * c.args.width) c.args.col = c.other_entry-f.ensures ∙ ap (λ (z : ℕ). other_entry c.loop-t.a z (c.args.k * c.args.width) c.args.col) c.loop-t.invariant.2 in
+    let is-inside : c.loop-t.invariant.0 < c.args.rows = row_inside c.args.rows c.args.width c.loop-t.invariant.0 _ c.loop-t.invariant.2 (omega arith) in
+    let size : length c.loop-t.a ≡ length c.args.a.now = let x = c.args in
+    ap length c.loop-t.invariant.3 ∙ length-clear x.p x.width x.k x.col c.loop-t.invariant.0 x.a.now in
+    let below : Below c.args.p c.loop-t.a = let x = c.args in
+    let l = c.loop-t in
+    rows-below x.p x.width x.k x.col l.invariant.0 x.a.now l.a l.invariant.3 c.requires.a_len.3 c.requires.below in
+    let small : c.other_entry-f.result < c.args.p = let x = c.args in
+    let l = c.loop-t in
+    other-below x.p x.width x.k x.col l.invariant.0 c.other_entry-f.result l.a (omega arith) read c.requires.a_len.3 below in
     let x = c.args in
     let i = c.loop-t.invariant in
-    let there = other_row x.p x.width x.k x.col i.0 c.other_entry-f.result c.loop-t.a (omega arith) (read c.before.before.before) c.if-f-ne0.true in record { width_in_bounds = omega (arith, row_fits x.rows x.width i.0 (is-inside c.before.before.before), row_fits x.rows x.width x.k (omega arith), i.2, size c.before.before.before.before.before, small c.before.before.before); kept = ⊎_elim (λ m. inl (omega (arith, i.2))) (λ m. inr (omega (arith, i.2))) (rows_apart x.width i.0 x.k there); below = below c.before.before.before }
+    let there = other_row x.p x.width x.k x.col i.0 c.other_entry-f.result c.loop-t.a (omega arith) read c.if-f-ne0.true in record { width_in_bounds = omega (arith, row_fits x.rows x.width i.0 is-inside, row_fits x.rows x.width x.k (omega arith), i.2, size, small); kept = ⊎_elim (λ m. inl (omega (arith, i.2))) (λ m. inr (omega (arith, i.2))) (rows_apart x.width i.0 x.k there); below = below }
 
 pub overflow_add-t : goal.overflow_add-t
 overflow_add-t c =
+    let is-inside : c.loop-t.invariant.0 < c.args.rows = row_inside c.args.rows c.args.width c.loop-t.invariant.0 _ c.loop-t.invariant.2 (omega arith) in
     let x = c.args in
-    omega (arith, row_fits x.rows x.width c.loop-t.invariant.0 (is-inside c.before.before), c.loop-t.invariant.2)
+    omega (arith, row_fits x.rows x.width c.loop-t.invariant.0 is-inside, c.loop-t.invariant.2)
 
 pub loop-t-smaller : goal.loop-t-smaller
 loop-t-smaller c = omega arith
 
 pub loop-t-preserved : goal.loop-t-preserved
 loop-t-preserved c =
+    let read : c.other_entry-f.result ≡ other_entry c.loop-t.a (c.loop-t.invariant.0 * c.args.width) (c.args.k * c.args.width) c.args.col = c.other_entry-f.ensures ∙ ap (λ (z : ℕ). other_entry c.loop-t.a z (c.args.k * c.args.width) c.args.col) c.loop-t.invariant.2 in
+    let is-inside : c.loop-t.invariant.0 < c.args.rows = row_inside c.args.rows c.args.width c.loop-t.invariant.0 _ c.loop-t.invariant.2 (omega arith) in
     let x = c.args in
     let l = c.loop-t in
     let r = l.invariant.0 in
@@ -86,15 +85,18 @@ loop-t-preserved c =
     let count = count-step x.p x.width x.k x.col r l.steps x.a.now l.a (omega arith) l.invariant.3 l.invariant.4 in
     ⊎_elim
     (λ w.
-    let g = row-cleared x.p x.width x.k x.col r f l.a (omega arith) (read c.before.before) w.0.true in
-    (suc r, is-inside c.before.before, omega (arith, l.invariant.2), step (w.5 ∙ w.2.ensures ∙ ap (λ (z : ℕ). add_row x.p (x.p - f) z (x.k * x.width) x.width l.a) l.invariant.2 ∙ g.0), w.6 ∙ count 1 g.1))
+    let g = row-cleared x.p x.width x.k x.col r f l.a (omega arith) read w.0.true in
+    (suc r, is-inside, omega (arith, l.invariant.2), step (w.5 ∙ w.2.ensures ∙ ap (λ (z : ℕ). add_row x.p (x.p - f) z (x.k * x.width) x.width l.a) l.invariant.2 ∙ g.0), w.6 ∙ count 1 g.1))
     (λ w.
-    let g = row-passed x.p x.width x.k x.col r f l.a (omega arith) (read c.before.before) w.0.false in
-    (suc r, is-inside c.before.before, omega (arith, l.invariant.2), step (w.1 ∙ g.0), omega (arith, w.2, count 0 g.1)))
+    let g = row-passed x.p x.width x.k x.col r f l.a (omega arith) read w.0.false in
+    (suc r, is-inside, omega (arith, l.invariant.2), step (w.1 ∙ g.0), omega (arith, w.2, count 0 g.1)))
     c.if-f-ne0.branch-raw
 
 pub shape_of-a : goal.shape_of-a
-shape_of-a c = size c.before.before
+shape_of-a c =
+    let size : length c.loop-t.a ≡ length c.args.a.now = let x = c.args in
+    ap length c.loop-t.invariant.3 ∙ length-clear x.p x.width x.k x.col c.loop-t.invariant.0 x.a.now in
+    size
 
 pub returns : goal.returns
 returns c =

@@ -4,7 +4,6 @@ use mathlib.Core.Path.{◌≡◌}
 use Rattle.base.specs.Matrix.{entry}
 use Rattle.gauss.specs.Gauss.{others}
 use Rattle.elimination.specs.Elimination.{clear_to}
-use Rattle.elimination.proofs.clear_column.Tie as tie
 use Rattle.elimination.proofs.clear_column.Given as goal
 
 abbrev pub invariant-loop-t : goal.invariant-loop-t

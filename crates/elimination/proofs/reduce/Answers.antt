@@ -12,17 +12,6 @@ use Rattle.elimination.proofs.Flat.{column-some, column-none, counts_some, count
 use Rattle.elimination.proofs.reduce.Tie as tie
 use Rattle.elimination.proofs.reduce.Goals as goal
 
-ready : (c : tie.At-loop-col goal.the-invariant-loop-col goal.the-decreases-loop-col) → Ready c.args.p c.args.rows c.args.width c.loop-col.a c.loop-col.used
-ready c =
-    let x = c.args in
-    let i = c.loop-col.invariant in
-    let r = c.requires.ready in
-    record {
-      fits = record { size = i.1 ∙ r.fits.size; marks = i.2 ∙ r.fits.marks; narrow = r.fits.narrow };
-      prime = r.prime;
-      below = below-reduce x.p x.rows x.width c.loop-col.col (buffers x.a.now x.used.now) _ i.3.state (omega (arith, r.prime.big)) r.below;
-    }
-
 -- what the next column leaves, where it has a pivot and where it has none
 
 module _ (c : tie.After-find-pivot invariant-loop decreases-loop) where
@@ -53,10 +42,26 @@ unfolding flat_reduce flat_steps
 loop-col-init c = (omega arith, refl, refl, record { state = refl; steps = refl })
 
 pub find_pivot-k-requires : goal.find_pivot-k-requires
-find_pivot-k-requires c = record { fits = (ready c.before.before).fits; col_lt_width = omega arith }
+find_pivot-k-requires c =
+    let ready : Ready c.args.p c.args.rows c.args.width c.loop-col.a c.loop-col.used = let x = c.args in
+    let i = c.loop-col.invariant in
+    let r = c.requires.ready in
+    record {
+      fits = record { size = i.1 ∙ r.fits.size; marks = i.2 ∙ r.fits.marks; narrow = r.fits.narrow };
+      prime = r.prime;
+      below = below-reduce x.p x.rows x.width c.loop-col.col (buffers x.a.now x.used.now) _ i.3.state (omega (arith, r.prime.big)) r.below;
+    } in record { fits = ready.fits; col_lt_width = omega arith }
 
 pub use_row-total-requires : goal.use_row-total-requires
-use_row-total-requires c = record { ready = ready c.before.before.before.before.before.before.before; k_lt_rows = (c.if-k-rows.true, omega arith); inverses = c.inverses-table.ensures }
+use_row-total-requires c =
+    let ready : Ready c.args.p c.args.rows c.args.width c.loop-col.a c.loop-col.used = let x = c.args in
+    let i = c.loop-col.invariant in
+    let r = c.requires.ready in
+    record {
+      fits = record { size = i.1 ∙ r.fits.size; marks = i.2 ∙ r.fits.marks; narrow = r.fits.narrow };
+      prime = r.prime;
+      below = below-reduce x.p x.rows x.width c.loop-col.col (buffers x.a.now x.used.now) _ i.3.state (omega (arith, r.prime.big)) r.below;
+    } in record { ready = ready; k_lt_rows = (c.if-k-rows.true, omega arith); inverses = c.inverses-table.ensures }
 
 pub overflow_add-total : goal.overflow_add-total
 overflow_add-total c =

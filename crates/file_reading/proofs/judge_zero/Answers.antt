@@ -12,93 +12,134 @@ use Rattle.file_records.proofs.Reading.{part-is}
 use Rattle.file_reading.specs.declared.Parts.{Parts}
 use Rattle.file_reading.specs.Inner.{part_of, PartsIn}
 use Rattle.file_reading.proofs.Judged.{few, small, at-is, setup-there, zero-there, zero_is, zero-fair, zero-judged}
-use Rattle.file_reading.proofs.judge_zero.Tie as tie
 use Rattle.file_reading.proofs.judge_zero.Goals as goal
-
-abbrev file : tie.After-s-1 → List ℕ
-file c = c.args.file.now
-
-abbrev parts : tie.After-s-1 → Parts
-parts c = c.args.parts
-
-in_order : (c : tie.After-s-1) → PartsIn (file c) (parts c)
-in_order c = c.requires.0
-
-abbrev params : tie.After-s-1 → Params
-params c = (parts c).setup
 
 -- where DZ starts
 
-abbrev at : tie.After-s-1 → ℕ
-at c = 10 + 2 * ((params c).n * ((params c).l + (params c).e))
-
-part_same : (c : tie.After-s-1) → take (length (file c) - at c) (drop (at c) (file c)) ≡ part_of (file c)
-part_same c = part-is (file c) (at c) ∙ ap (λ (k : ℕ). drop k (file c)) (at-is (file c) (parts c) (in_order c))
-
-inside : (c : tie.After-s-1) → at c ≤ length (file c)
-inside c = omega (arith, setup-there (file c) (parts c) (in_order c))
-
-lists : (c : tie.After-read_part-lists) → HoldsPart (setup_of (params c.before.before.before.before.before.before) []) (params c.before.before.before.before.before.before).e (part_of (file c.before.before.before.before.before.before)) c.read_part-lists.result
-lists c =
-    subst (λ (t : List ℕ). HoldsPart (setup_of (params c.before.before.before.before.before.before) []) (params c.before.before.before.before.before.before).e t c.read_part-lists.result) (part_same c.before.before.before.before.before.before) c.read_part-lists.ensures
-
-entries : (c : tie.After-s-1) → (params c).n * ((params c).l + (params c).e) ≤ 512
-entries c = (small (file c) (parts c) (in_order c)).entries
-
 pub overflow_mul-len : goal.overflow_mul-len
-overflow_mul-len c = omega (arith, entries c.before.before.before.before)
+overflow_mul-len c =
+    let parts : Parts = c.args.parts in
+    let params : Params = parts.setup in
+    let file : List ℕ = c.args.file.now in
+    let in_order : PartsIn file parts = c.requires.0 in
+    let entries : params.n * (params.l + params.e) ≤ 512 = (small file parts in_order).entries in
+    omega (arith, entries)
 
 pub overflow_mul-at : goal.overflow_mul-at
-overflow_mul-at c = omega (arith, entries c.before.before.before.before)
+overflow_mul-at c =
+    let parts : Parts = c.args.parts in
+    let params : Params = parts.setup in
+    let file : List ℕ = c.args.file.now in
+    let in_order : PartsIn file parts = c.requires.0 in
+    let entries : params.n * (params.l + params.e) ≤ 512 = (small file parts in_order).entries in
+    omega (arith, entries)
 
 pub overflow_add-at : goal.overflow_add-at
-overflow_add-at c = omega (arith, entries c.before.before.before.before)
+overflow_add-at c =
+    let parts : Parts = c.args.parts in
+    let params : Params = parts.setup in
+    let file : List ℕ = c.args.file.now in
+    let in_order : PartsIn file parts = c.requires.0 in
+    let entries : params.n * (params.l + params.e) ≤ 512 = (small file parts in_order).entries in
+    omega (arith, entries)
 
 pub read_matrix-matrix-requires : goal.read_matrix-matrix-requires
 read_matrix-matrix-requires c =
-    (small (file c.before.before.before.before) (parts c.before.before.before.before) (in_order c.before.before.before.before), setup-there (file c.before.before.before.before) (parts c.before.before.before.before) (in_order c.before.before.before.before))
+    let file : List ℕ = c.args.file.now in
+    let parts : Parts = c.args.parts in
+    let in_order : PartsIn file parts = c.requires.0 in
+    (small file parts in_order, setup-there file parts in_order)
 
 pub slice_bounds-read_part-count : goal.slice_bounds-read_part-count
-slice_bounds-read_part-count c = inside c.before.before.before.before.before
+slice_bounds-read_part-count c =
+    let parts : Parts = c.args.parts in
+    let params : Params = parts.setup in
+    let at : ℕ = 10 + 2 * (params.n * (params.l + params.e)) in
+    let file : List ℕ = c.args.file.now in
+    let in_order : PartsIn file parts = c.requires.0 in
+    let inside : at ≤ length file = omega (arith, setup-there file parts in_order) in
+    inside
 
 pub slice_bounds-read_part-start : goal.slice_bounds-read_part-start
-slice_bounds-read_part-start c = inside c.before.before.before.before.before
+slice_bounds-read_part-start c =
+    let parts : Parts = c.args.parts in
+    let params : Params = parts.setup in
+    let at : ℕ = 10 + 2 * (params.n * (params.l + params.e)) in
+    let file : List ℕ = c.args.file.now in
+    let in_order : PartsIn file parts = c.requires.0 in
+    let inside : at ≤ length file = omega (arith, setup-there file parts in_order) in
+    inside
 
 pub read_part-lists-requires : goal.read_part-lists-requires
 read_part-lists-requires c =
-    let P = in_order c.before.before.before.before.before.before in
-    let p = params c.before.before.before.before.before.before in (
-      small (file c.before.before.before.before.before.before) (parts c.before.before.before.before.before.before) P,
-      omega (arith, (small (file c.before.before.before.before.before.before) (parts c.before.before.before.before.before.before) P).width),
-      subst (λ (t : List ℕ). 6 + 2 * (p.l + p.e + p.e) ≤ length t) (sym (part_same c.before.before.before.before.before.before))
-          (zero-there (file c.before.before.before.before.before.before) (parts c.before.before.before.before.before.before) P (zero_is (file c.before.before.before.before.before.before) (parts c.before.before.before.before.before.before) P _ c.requires.1)),
+    let file : List ℕ = c.args.file.now in
+    let parts : Parts = c.args.parts in
+    let in_order : PartsIn file parts = c.requires.0 in
+    let params : Params = parts.setup in
+    let at : ℕ = 10 + 2 * (params.n * (params.l + params.e)) in
+    let part_same : take (length file - at) (drop at file) ≡ part_of file = part-is file at ∙ ap (λ (k : ℕ). drop k file) (at-is file parts in_order) in
+    let P = in_order in
+    let p = params in (
+      small file parts P,
+      omega (arith, (small file parts P).width),
+      subst (λ (t : List ℕ). 6 + 2 * (p.l + p.e + p.e) ≤ length t) (sym part_same)
+          (zero-there file parts P (zero_is file parts P _ c.requires.1)),
     )
 
 pub slice_bounds-matrix-end : goal.slice_bounds-matrix-end
 slice_bounds-matrix-end c =
-    omega (arith, entries c.before.before.before.before.before.before.before.before.before, c.read_matrix-matrix.ensures.0)
+    let parts : Parts = c.args.parts in
+    let params : Params = parts.setup in
+    let file : List ℕ = c.args.file.now in
+    let in_order : PartsIn file parts = c.requires.0 in
+    let entries : params.n * (params.l + params.e) ≤ 512 = (small file parts in_order).entries in
+    omega (arith, entries, c.read_matrix-matrix.ensures.0)
 
 pub slice_bounds-judgement_zero-end : goal.slice_bounds-judgement_zero-end
 slice_bounds-judgement_zero-end c = sym (length-take-le _ _ (array-share-prefix-matrix «bare»c.before))
 
 pub slice_bounds-h-end : goal.slice_bounds-h-end
 slice_bounds-h-end c =
-    omega (arith, (small (file c.before.before.before.before.before.before.before.before.before.before) (parts c.before.before.before.before.before.before.before.before.before.before) (in_order c.before.before.before.before.before.before.before.before.before.before)).width, (lists c.before.before.before.before).h-size)
+    let file : List ℕ = c.args.file.now in
+    let parts : Parts = c.args.parts in
+    let in_order : PartsIn file parts = c.requires.0 in
+    let params : Params = parts.setup in
+    let at : ℕ = 10 + 2 * (params.n * (params.l + params.e)) in
+    let part_same : take (length file - at) (drop at file) ≡ part_of file = part-is file at ∙ ap (λ (k : ℕ). drop k file) (at-is file parts in_order) in
+    let lists : HoldsPart (setup_of params []) params.e (part_of file) c.read_part-lists.result = subst (λ (t : List ℕ). HoldsPart (setup_of params []) params.e t c.read_part-lists.result) part_same c.read_part-lists.ensures in
+    omega (arith, (small file parts in_order).width, lists.h-size)
 
 pub slice_bounds-judgement_zero-end-2 : goal.slice_bounds-judgement_zero-end-2
 slice_bounds-judgement_zero-end-2 c = sym (length-take-le _ _ (array-share-prefix-h «bare»c.before))
 
 pub slice_bounds-values-end : goal.slice_bounds-values-end
 slice_bounds-values-end c =
-    omega (arith, few (file c.before.before.before.before.before.before.before.before.before.before.before) (parts c.before.before.before.before.before.before.before.before.before.before.before) (in_order c.before.before.before.before.before.before.before.before.before.before.before), (in_order c.before.before.before.before.before.before.before.before.before.before.before).values-size)
+    let file : List ℕ = c.args.file.now in
+    let parts : Parts = c.args.parts in
+    let in_order : PartsIn file parts = c.requires.0 in
+    omega (arith, few file parts in_order, in_order.values-size)
 
 pub slice_bounds-judgement_zero-end-3 : goal.slice_bounds-judgement_zero-end-3
 slice_bounds-judgement_zero-end-3 c = sym (length-take-le _ _ (array-share-prefix-values «bare»c.before))
 
 pub judgement_zero-judgement-requires : goal.judgement_zero-judgement-requires
 judgement_zero-judgement-requires c =
-    zero-fair (file c.before.before.before.before.before.before.before.before.before.before.before.before) (parts c.before.before.before.before.before.before.before.before.before.before.before.before) (in_order c.before.before.before.before.before.before.before.before.before.before.before.before) c.read_matrix-matrix.result c.read_matrix-matrix.ensures.1 c.read_part-lists.result (lists c.before.before.before.before.before.before) c.requires.1
+    let file : List ℕ = c.args.file.now in
+    let parts : Parts = c.args.parts in
+    let in_order : PartsIn file parts = c.requires.0 in
+    let params : Params = parts.setup in
+    let at : ℕ = 10 + 2 * (params.n * (params.l + params.e)) in
+    let part_same : take (length file - at) (drop at file) ≡ part_of file = part-is file at ∙ ap (λ (k : ℕ). drop k file) (at-is file parts in_order) in
+    let lists : HoldsPart (setup_of params []) params.e (part_of file) c.read_part-lists.result = subst (λ (t : List ℕ). HoldsPart (setup_of params []) params.e t c.read_part-lists.result) part_same c.read_part-lists.ensures in
+    zero-fair file parts in_order c.read_matrix-matrix.result c.read_matrix-matrix.ensures.1 c.read_part-lists.result lists c.requires.1
 
 pub returns : goal.returns
 returns c =
-    zero-judged (file c.before.before.before.before.before.before.before.before.before.before.before.before.before.before) (parts c.before.before.before.before.before.before.before.before.before.before.before.before.before.before) (in_order c.before.before.before.before.before.before.before.before.before.before.before.before.before.before) c.read_matrix-matrix.result c.read_matrix-matrix.ensures.1 c.read_part-lists.result (lists c.before.before.before.before.before.before.before.before) c.judgement_zero-judgement.result c.requires.1 c.judgement_zero-judgement.ensures
+    let file : List ℕ = c.args.file.now in
+    let parts : Parts = c.args.parts in
+    let in_order : PartsIn file parts = c.requires.0 in
+    let params : Params = parts.setup in
+    let at : ℕ = 10 + 2 * (params.n * (params.l + params.e)) in
+    let part_same : take (length file - at) (drop at file) ≡ part_of file = part-is file at ∙ ap (λ (k : ℕ). drop k file) (at-is file parts in_order) in
+    let lists : HoldsPart (setup_of params []) params.e (part_of file) c.read_part-lists.result = subst (λ (t : List ℕ). HoldsPart (setup_of params []) params.e t c.read_part-lists.result) part_same c.read_part-lists.ensures in
+    zero-judged file parts in_order c.read_matrix-matrix.result c.read_matrix-matrix.ensures.1 c.read_part-lists.result lists c.judgement_zero-judgement.result c.requires.1 c.judgement_zero-judgement.ensures

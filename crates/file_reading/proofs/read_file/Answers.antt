@@ -18,68 +18,13 @@ use Rattle.file_reading.specs.File as reads
 use Rattle.file_reading.specs.Inner.{zero_in, second_of, tied_in, contents_read, PartsIn, JudgedIn}
 use Rattle.file_reading.proofs.Steps.{dealing-fair, tells-refused, tells-whole, of-13, of-whole, fate-same, kept-shares, no-shares, told_is, has-own, kind-mapped, kind-zero}
 use Rattle.file_reading.proofs.Judged.{few}
-use Rattle.file_reading.proofs.read_file.Tie as tie
 use Rattle.file_reading.proofs.read_file.Goals as goal
-
-abbrev file : tie.Else-parts-ne0 → List ℕ
-file c = c.args.file.now
-
-abbrev params : tie.Else-parts-ne0 → Params
-params c = c.read_parts-parts.result.setup
-
-parts : (c : tie.Else-parts-ne0) → PartsIn (file c) c.read_parts-parts.result
-parts c = c.read_parts-parts.ensures.next c.if-parts-ne0.false
-
-abbrev verdicts : tie.Else-parts-ne0 → List ℕ
-verdicts c = c.read_parts-parts.result.verdicts
-
-abbrev contents : tie.Else-parts-ne0 → Contents
-contents c = contents_read (file c) c.read_parts-parts.result
 
 -- THE PLACES from the end back to there
 
-own-judged : (c : tie.After-judge_parts-judged) → JudgedIn (contents c.before.before.before.before.before.before) c.judge_parts-judged.result
-own-judged c = c.judge_parts-judged.ensures
-
-fate-is : (c : tie.After-fate-fate) → c.fate-fate.result ≡ fate (contents c.before.before.before.before.before)
-fate-is c =
-    c.fate-fate.ensures
-    ∙ ap (λ (p : Params). fate_of (setup_of p []) (take p.n (verdicts c.before.before.before.before.before))) (parts c.before.before.before.before.before).setup
-    ∙ fate-same _ _ (take (setup_at (file c.before.before.before.before.before)).n (verdicts c.before.before.before.before.before))
-
 -- the own verdict, and what the code holds it against
 
-holder-below : (c : tie.Else-parts-ne0) → c.read_parts-parts.result.record.holder < (setup_at (file c)).n
-holder-below c =
-    omega (arith, (dealing-fair (file c) (parts c).fair).0, ap (λ (x : DealingRecord). x.holder) (parts c).dealing)
-
-said : (c : tie.Else-parts-ne0) → get_or (verdicts c) c.read_parts-parts.result.record.holder 0 ≡ get_or (contents c).verdicts (contents c).holder 0
-said c =
-    sym (get_or-take (setup_at (file c)).n (verdicts c) _ 0 (holder-below c))
-    ∙ ap (λ (x : DealingRecord). get_or (contents c).verdicts x.holder 0) (parts c).dealing
-
-own_is : (c : tie.Joined-judgement) → c.match-judgement.own ≡ verdict_of (judgement (contents c.before.before.before.before.before.before.before))
-own_is c =
-    ⊎_elim (λ w. w.2 ∙ sym (ap verdict_of w.1.given.1))
-    (⊎_elim (λ w. w.2 ∙ sym (ap verdict_of w.1.given.1)) (λ w. w.2 ∙ sym (ap verdict_of w.1.given.1))) c.match-judgement.branch-raw
-    ∙ ap verdict_of (own-judged c.before).judgement
-
 -- where they agree the contents are read
-
-agreed : (c : tie.Else-verdicts-i) → reads.whole (contents c.before.before.before.before.before.before.before.before.before.before) ≡ read_file (file c.before.before.before.before.before.before.before.before.before.before)
-agreed c =
-    of-whole (contents c.before.before.before.before.before.before.before.before.before.before) (length (file c.before.before.before.before.before.before.before.before.before.before)) (sym (said c.before.before.before.before.before.before.before.before.before.before) ∙ c.if-verdicts-i.false ∙ own_is c.before.before.before) ∙ (parts c.before.before.before.before.before.before.before.before.before.before).is
-
-tied : (c : tie.Else-parts-ne0) → c.read_parts-parts.result.mapped ≡ is_mapped (contents c).kind
-tied c =
-    let S = setup_at (file c) in
-    (parts c).mapped ∙ kind-mapped S (zero_in (file c)) (tied_in (file c)) (second_of (file c)) (take S.n c.read_parts-parts.result.values2)
-
-none : (c : tie.Else-parts-ne0) → c.read_parts-parts.result.zero ≡ is_zero (contents c).kind
-none c =
-    let s = file c in
-    let S = setup_at s in
-    (parts c).zero ∙ kind-zero S (zero_in s) (tied_in s) (second_of s) (take S.n c.read_parts-parts.result.values2) (has-own (zero_in s) (second_of s))
 
 pub returns-then-parts-ne0 : goal.returns-then-parts-ne0
 returns-then-parts-ne0 c =
@@ -87,41 +32,102 @@ returns-then-parts-ne0 c =
 
 pub slice_bounds-verdicts-end : goal.slice_bounds-verdicts-end
 slice_bounds-verdicts-end c =
-    omega (arith, few (file c.before.before.before.before) c.read_parts-parts.result (parts c.before.before.before.before), (parts c.before.before.before.before).verdicts-size)
+    let file : List ℕ = c.args.file.now in
+    let parts : PartsIn file c.read_parts-parts.result = c.read_parts-parts.ensures.next c.if-parts-ne0.false in
+    omega (arith, few file c.read_parts-parts.result parts, parts.verdicts-size)
 
 pub slice_bounds-fate-end : goal.slice_bounds-fate-end
 slice_bounds-fate-end c = sym (length-take-le _ _ (array-share-prefix-verdicts «bare»c.before))
 
 pub fate-fate-requires : goal.fate-fate-requires
 fate-fate-requires c =
-    omega (arith, length-take-le (params c.before.before.before.before.before).n (verdicts c.before.before.before.before.before) (array-share-prefix-verdicts «bare»c.before))
+    let params : Params = c.read_parts-parts.result.setup in
+    let verdicts : List ℕ = c.read_parts-parts.result.verdicts in
+    omega (arith, length-take-le params.n verdicts (array-share-prefix-verdicts «bare»c.before))
 
 pub judge_parts-judged-requires : goal.judge_parts-judged-requires
-judge_parts-judged-requires c = parts c.before.before.before.before.before.before
+judge_parts-judged-requires c =
+    let file : List ℕ = c.args.file.now in
+    let parts : PartsIn file c.read_parts-parts.result = c.read_parts-parts.ensures.next c.if-parts-ne0.false in
+    parts
 
 pub bounds-verdicts-i : goal.bounds-verdicts-i
 bounds-verdicts-i c =
-    omega (arith, holder-below c.before.before.before.before.before.before.before.before.before.before, few (file c.before.before.before.before.before.before.before.before.before.before) c.read_parts-parts.result (parts c.before.before.before.before.before.before.before.before.before.before), ap (λ (p : Params). p.n) (parts c.before.before.before.before.before.before.before.before.before.before).setup, (parts c.before.before.before.before.before.before.before.before.before.before).verdicts-size)
+    let file : List ℕ = c.args.file.now in
+    let parts : PartsIn file c.read_parts-parts.result = c.read_parts-parts.ensures.next c.if-parts-ne0.false in
+    let holder-below : c.read_parts-parts.result.record.holder < (setup_at file).n = omega (arith, (dealing-fair file parts.fair).0, ap (λ (x : DealingRecord). x.holder) parts.dealing) in
+    omega (arith, holder-below, few file c.read_parts-parts.result parts, ap (λ (p : Params). p.n) parts.setup, parts.verdicts-size)
 
 pub returns-then-verdicts-i : goal.returns-then-verdicts-i
 returns-then-verdicts-i c =
-    tells-refused 13 (length (file c.before.before.before.before.before.before.before.before.before.before.before)) _ (read_file (file c.before.before.before.before.before.before.before.before.before.before.before))
-    (of-13 (contents c.before.before.before.before.before.before.before.before.before.before.before) (length (file c.before.before.before.before.before.before.before.before.before.before.before)) (λ e. c.if-verdicts-i.true (said c.before.before.before.before.before.before.before.before.before.before.before ∙ e ∙ sym (own_is c.before.before.before.before))) ∙ (parts c.before.before.before.before.before.before.before.before.before.before.before).is)
+    let file : List ℕ = c.args.file.now in
+    let contents : Contents = contents_read file c.read_parts-parts.result in
+    let verdicts : List ℕ = c.read_parts-parts.result.verdicts in
+    let parts : PartsIn file c.read_parts-parts.result = c.read_parts-parts.ensures.next c.if-parts-ne0.false in
+    let holder-below : c.read_parts-parts.result.record.holder < (setup_at file).n = omega (arith, (dealing-fair file parts.fair).0, ap (λ (x : DealingRecord). x.holder) parts.dealing) in
+    let said : get_or verdicts c.read_parts-parts.result.record.holder 0 ≡ get_or contents.verdicts contents.holder 0 = sym (get_or-take (setup_at file).n verdicts _ 0 holder-below)
+    ∙ ap (λ (x : DealingRecord). get_or contents.verdicts x.holder 0) parts.dealing in
+    let own-judged : JudgedIn contents c.judge_parts-judged.result = c.judge_parts-judged.ensures in
+    let own_is : c.match-judgement.own ≡ verdict_of (judgement contents) = ⊎_elim (λ w. w.2 ∙ sym (ap verdict_of w.1.given.1))
+    (⊎_elim (λ w. w.2 ∙ sym (ap verdict_of w.1.given.1)) (λ w. w.2 ∙ sym (ap verdict_of w.1.given.1))) c.match-judgement.branch-raw
+    ∙ ap verdict_of own-judged.judgement in
+    tells-refused 13 (length file) _ (read_file file)
+    (of-13 contents (length file) (λ e. c.if-verdicts-i.true (said ∙ e ∙ sym own_is)) ∙ parts.is)
 
 pub returns-in-Kept : goal.returns-in-Kept
 returns-in-Kept c =
-    let J = own-judged c.before.before.before.before.before.before.before.before.before in
-    let C = contents c.before.before.before.before.before.before.before.before.before.before.before.before.before.before.before in
-    let e = sym (fate-is c.before.before.before.before.before.before.before.before.before.before) ∙ c.in-Kept.is in
-    tells-whole C _ (read_file (file c.before.before.before.before.before.before.before.before.before.before.before.before.before.before.before)) (agreed c.before.before.before.before.before)
-    (told_is C _ _ _ _ _ _ _ _ (parts c.before.before.before.before.before.before.before.before.before.before.before.before.before.before.before).setup (parts c.before.before.before.before.before.before.before.before.before.before.before.before.before.before.before).dealing J.judgement (fate-is c.before.before.before.before.before.before.before.before.before.before)
-    (kept-shares C.setup C.verdicts _ _ e J.shares) (tied c.before.before.before.before.before.before.before.before.before.before.before.before.before.before.before) (kept-shares C.setup C.verdicts _ _ e J.shares2) (none c.before.before.before.before.before.before.before.before.before.before.before.before.before.before.before))
+    let file : List ℕ = c.args.file.now in
+    let contents : Contents = contents_read file c.read_parts-parts.result in
+    let own-judged : JudgedIn contents c.judge_parts-judged.result = c.judge_parts-judged.ensures in
+    let verdicts : List ℕ = c.read_parts-parts.result.verdicts in
+    let parts : PartsIn file c.read_parts-parts.result = c.read_parts-parts.ensures.next c.if-parts-ne0.false in
+    let fate-is : c.fate-fate.result ≡ fate contents = c.fate-fate.ensures
+    ∙ ap (λ (p : Params). fate_of (setup_of p []) (take p.n verdicts)) parts.setup
+    ∙ fate-same _ _ (take (setup_at file).n verdicts) in
+    let holder-below : c.read_parts-parts.result.record.holder < (setup_at file).n = omega (arith, (dealing-fair file parts.fair).0, ap (λ (x : DealingRecord). x.holder) parts.dealing) in
+    let said : get_or verdicts c.read_parts-parts.result.record.holder 0 ≡ get_or contents.verdicts contents.holder 0 = sym (get_or-take (setup_at file).n verdicts _ 0 holder-below)
+    ∙ ap (λ (x : DealingRecord). get_or contents.verdicts x.holder 0) parts.dealing in
+    let own_is : c.match-judgement.own ≡ verdict_of (judgement contents) = ⊎_elim (λ w. w.2 ∙ sym (ap verdict_of w.1.given.1))
+    (⊎_elim (λ w. w.2 ∙ sym (ap verdict_of w.1.given.1)) (λ w. w.2 ∙ sym (ap verdict_of w.1.given.1))) c.match-judgement.branch-raw
+    ∙ ap verdict_of own-judged.judgement in
+    let agreed : reads.whole contents ≡ read_file file = of-whole contents (length file) (sym said ∙ c.if-verdicts-i.false ∙ own_is) ∙ parts.is in
+    let tied : c.read_parts-parts.result.mapped ≡ is_mapped contents.kind = let S = setup_at file in
+    parts.mapped ∙ kind-mapped S (zero_in file) (tied_in file) (second_of file) (take S.n c.read_parts-parts.result.values2) in
+    let none : c.read_parts-parts.result.zero ≡ is_zero contents.kind = let s = file in
+    let S = setup_at s in
+    parts.zero ∙ kind-zero S (zero_in s) (tied_in s) (second_of s) (take S.n c.read_parts-parts.result.values2) (has-own (zero_in s) (second_of s)) in
+    let J = own-judged in
+    let C = contents in
+    let e = sym fate-is ∙ c.in-Kept.is in
+    tells-whole C _ (read_file file) agreed
+    (told_is C _ _ _ _ _ _ _ _ parts.setup parts.dealing J.judgement fate-is
+    (kept-shares C.setup C.verdicts _ _ e J.shares) tied (kept-shares C.setup C.verdicts _ _ e J.shares2) none)
 
 pub returns-in-Aborted : goal.returns-in-Aborted
 returns-in-Aborted c =
-    let J = own-judged c.before.before.before.before.before.before.before in
-    let C = contents c.before.before.before.before.before.before.before.before.before.before.before.before.before in
-    let e = sym (fate-is c.before.before.before.before.before.before.before.before) ∙ c.in-Aborted.is in
-    tells-whole C _ (read_file (file c.before.before.before.before.before.before.before.before.before.before.before.before.before)) (agreed c.before.before.before)
-    (told_is C _ _ _ _ _ _ _ _ (parts c.before.before.before.before.before.before.before.before.before.before.before.before.before).setup (parts c.before.before.before.before.before.before.before.before.before.before.before.before.before).dealing J.judgement (fate-is c.before.before.before.before.before.before.before.before)
-    (no-shares C.setup C.verdicts _ _ e) (tied c.before.before.before.before.before.before.before.before.before.before.before.before.before) (no-shares C.setup C.verdicts _ _ e) (none c.before.before.before.before.before.before.before.before.before.before.before.before.before))
+    let file : List ℕ = c.args.file.now in
+    let contents : Contents = contents_read file c.read_parts-parts.result in
+    let own-judged : JudgedIn contents c.judge_parts-judged.result = c.judge_parts-judged.ensures in
+    let verdicts : List ℕ = c.read_parts-parts.result.verdicts in
+    let parts : PartsIn file c.read_parts-parts.result = c.read_parts-parts.ensures.next c.if-parts-ne0.false in
+    let fate-is : c.fate-fate.result ≡ fate contents = c.fate-fate.ensures
+    ∙ ap (λ (p : Params). fate_of (setup_of p []) (take p.n verdicts)) parts.setup
+    ∙ fate-same _ _ (take (setup_at file).n verdicts) in
+    let holder-below : c.read_parts-parts.result.record.holder < (setup_at file).n = omega (arith, (dealing-fair file parts.fair).0, ap (λ (x : DealingRecord). x.holder) parts.dealing) in
+    let said : get_or verdicts c.read_parts-parts.result.record.holder 0 ≡ get_or contents.verdicts contents.holder 0 = sym (get_or-take (setup_at file).n verdicts _ 0 holder-below)
+    ∙ ap (λ (x : DealingRecord). get_or contents.verdicts x.holder 0) parts.dealing in
+    let own_is : c.match-judgement.own ≡ verdict_of (judgement contents) = ⊎_elim (λ w. w.2 ∙ sym (ap verdict_of w.1.given.1))
+    (⊎_elim (λ w. w.2 ∙ sym (ap verdict_of w.1.given.1)) (λ w. w.2 ∙ sym (ap verdict_of w.1.given.1))) c.match-judgement.branch-raw
+    ∙ ap verdict_of own-judged.judgement in
+    let agreed : reads.whole contents ≡ read_file file = of-whole contents (length file) (sym said ∙ c.if-verdicts-i.false ∙ own_is) ∙ parts.is in
+    let tied : c.read_parts-parts.result.mapped ≡ is_mapped contents.kind = let S = setup_at file in
+    parts.mapped ∙ kind-mapped S (zero_in file) (tied_in file) (second_of file) (take S.n c.read_parts-parts.result.values2) in
+    let none : c.read_parts-parts.result.zero ≡ is_zero contents.kind = let s = file in
+    let S = setup_at s in
+    parts.zero ∙ kind-zero S (zero_in s) (tied_in s) (second_of s) (take S.n c.read_parts-parts.result.values2) (has-own (zero_in s) (second_of s)) in
+    let J = own-judged in
+    let C = contents in
+    let e = sym fate-is ∙ c.in-Aborted.is in
+    tells-whole C _ (read_file file) agreed
+    (told_is C _ _ _ _ _ _ _ _ parts.setup parts.dealing J.judgement fate-is
+    (no-shares C.setup C.verdicts _ _ e) tied (no-shares C.setup C.verdicts _ _ e) none)

@@ -19,7 +19,6 @@ use Rattle.file_reading.specs.declared.Front.{Front}
 use Rattle.file_reading.specs.File.{mapped_rules, mapped_fault}
 use Rattle.file_reading.specs.Inner.{part_of, zero_in, second_of, tied_in, FrontIn, ReadsMap}
 use Rattle.file_reading.proofs.Steps.{front_fits, has-no-place, has-none, has-mark, map-none, map-own}
-use Rattle.file_reading.proofs.read_second.Tie as tie
 use Rattle.file_reading.proofs.read_second.Goals as goal
 
 none-there : (s : List ℕ) (f : Front) → FrontIn s f → tied_in s ≡ false → ReadsMap s (record { refusal = 0; byte = f.byte; mapped = false })
@@ -31,41 +30,11 @@ none-there s f F e =
       next = λ _. F.byte ∙ rw e (omega arith);
     }
 
-abbrev file : tie.After-t-1 → List ℕ
-file c = c.args.file.now
-
-abbrev front : tie.After-t-1 → Front
-front c = c.args.front
-
 -- the part behind DL or DZ
-
-part_same : (c : tie.After-t-1) → take (length (file c) - (front c).byte) (drop (front c).byte (file c)) ≡ second_of (file c)
-part_same c = part-is (file c) (front c).byte ∙ ap (λ (k : ℕ). drop k (file c)) c.requires.byte
 
 -- its mark
 
-marked : (c : tie.Else-t-lt2) → tied_in (file c.before.before.before) ≡ eqb (word_at (second_of (file c.before.before.before)) 0) mark_df
-marked c =
-    let s = file c.before.before.before in
-    has-mark (zero_in s) (second_of s) (sym c.requires.zero ∙ c.if-front.false) (subst (λ (u : List ℕ). 2 ≤ length u) (part_same c.before.before.before) c.if-t-lt2.false)
-
-there : (c : tie.Else-mark-ne-MARK_DF) → tied_in (file c.before.before.before.before) ≡ true
-there c =
-    marked c.before ∙ eq-eqb _ _ (ap (λ (u : List ℕ). word_at u 0) (sym (part_same c.before.before.before.before)) ∙ sym c.word-mark.ensures ∙ c.if-mark-ne-MARK_DF.false)
-
 -- and what refuses it
-
-own : (c : tie.After-second_fault) → let s = file c.before.before.before.before.before.before in
-    c.second_fault.result ≡ mapped_fault (setup_at s) (dealing_at (part_of s)) (zero_in s) (second_of s)
-own c =
-    let s = file c.before.before.before.before.before.before in
-    let F = c.requires in
-    let t = take (length s - (front c.before.before.before.before.before.before).byte) (drop (front c.before.before.before.before.before.before).byte s) in
-    c.second_fault.ensures
-    ∙ ap (λ (p : Params). refusal (mapped_rules (setup_of p []) (front c.before.before.before.before.before.before).record t)) F.setup
-    ∙ ap (λ (x : DealingRecord). refusal (mapped_rules (setup_at s) x t)) F.dealing
-    ∙ ap (λ (u : List ℕ). refusal (mapped_rules (setup_at s) (dealing_at (part_of s)) u)) (part_same c.before.before.before.before.before.before)
-    ∙ map-own (setup_at s) (dealing_at (part_of s)) (zero_in s) (second_of s) (there c.before.before)
 
 fits : (s : List ℕ) (f : Front) → FrontIn s f → f.byte ≤ length s
 fits s f F = omega (arith, F.byte, front_fits s F.fair)
@@ -78,35 +47,73 @@ slice_bounds-t-start c = fits c.args.file.now c.args.front c.requires
 
 pub returns-then-front : goal.returns-then-front
 returns-then-front c =
-    let s = file c.before.before.before in
-    none-there s (front c.before.before.before) c.requires (has-no-place (zero_in s) (second_of s) (sym c.requires.zero ∙ c.if-front.true))
+    let file : List ℕ = c.args.file.now in
+    let front : Front = c.args.front in
+    let s = file in
+    none-there s front c.requires (has-no-place (zero_in s) (second_of s) (sym c.requires.zero ∙ c.if-front.true))
 
 pub returns-then-t-lt2 : goal.returns-then-t-lt2
 returns-then-t-lt2 c =
-    let s = file c.before.before.before.before in
-    none-there s (front c.before.before.before.before) c.requires (has-none (zero_in s) (second_of s) (subst (λ (u : List ℕ). length u < 2) (part_same c.before.before.before.before) c.if-t-lt2.true))
+    let file : List ℕ = c.args.file.now in
+    let front : Front = c.args.front in
+    let part_same : take (length file - front.byte) (drop front.byte file) ≡ second_of file = part-is file front.byte ∙ ap (λ (k : ℕ). drop k file) c.requires.byte in
+    let s = file in
+    none-there s front c.requires (has-none (zero_in s) (second_of s) (subst (λ (u : List ℕ). length u < 2) part_same c.if-t-lt2.true))
 
 pub returns-then-mark-ne-MARK_DF : goal.returns-then-mark-ne-MARK_DF
 returns-then-mark-ne-MARK_DF c =
-    none-there (file c.before.before.before.before.before) (front c.before.before.before.before.before) c.requires
-    (marked c.before.before ∙ ne_eqb _ _ (λ e. c.if-mark-ne-MARK_DF.true (c.word-mark.ensures ∙ ap (λ (u : List ℕ). word_at u 0) (part_same c.before.before.before.before.before) ∙ e)))
+    let file : List ℕ = c.args.file.now in
+    let front : Front = c.args.front in
+    let part_same : take (length file - front.byte) (drop front.byte file) ≡ second_of file = part-is file front.byte ∙ ap (λ (k : ℕ). drop k file) c.requires.byte in
+    let marked : tied_in file ≡ eqb (word_at (second_of file) 0) mark_df = let s = file in
+    has-mark (zero_in s) (second_of s) (sym c.requires.zero ∙ c.if-front.false) (subst (λ (u : List ℕ). 2 ≤ length u) part_same c.if-t-lt2.false) in
+    none-there file front c.requires
+    (marked ∙ ne_eqb _ _ (λ e. c.if-mark-ne-MARK_DF.true (c.word-mark.ensures ∙ ap (λ (u : List ℕ). word_at u 0) part_same ∙ e)))
 
 pub returns-then-second-ne0 : goal.returns-then-second-ne0
 returns-then-second-ne0 c =
+    let file : List ℕ = c.args.file.now in
+    let front : Front = c.args.front in
+    let part_same : take (length file - front.byte) (drop front.byte file) ≡ second_of file = part-is file front.byte ∙ ap (λ (k : ℕ). drop k file) c.requires.byte in
+    let marked : tied_in file ≡ eqb (word_at (second_of file) 0) mark_df = let s = file in
+    has-mark (zero_in s) (second_of s) (sym c.requires.zero ∙ c.if-front.false) (subst (λ (u : List ℕ). 2 ≤ length u) part_same c.if-t-lt2.false) in
+    let there : tied_in file ≡ true = marked ∙ eq-eqb _ _ (ap (λ (u : List ℕ). word_at u 0) (sym part_same) ∙ sym c.word-mark.ensures ∙ c.if-mark-ne-MARK_DF.false) in
+    let own : let s = file in c.second_fault.result ≡ mapped_fault (setup_at s) (dealing_at (part_of s)) (zero_in s) (second_of s) = let s = file in
+    let F = c.requires in
+    let t = take (length s - front.byte) (drop front.byte s) in
+    c.second_fault.ensures
+    ∙ ap (λ (p : Params). refusal (mapped_rules (setup_of p []) front.record t)) F.setup
+    ∙ ap (λ (x : DealingRecord). refusal (mapped_rules (setup_at s) x t)) F.dealing
+    ∙ ap (λ (u : List ℕ). refusal (mapped_rules (setup_at s) (dealing_at (part_of s)) u)) part_same
+    ∙ map-own (setup_at s) (dealing_at (part_of s)) (zero_in s) (second_of s) there in
     record {
-      mapped = sym (there c.before.before.before.before.before);
-      number = own c.before.before.before;
+      mapped = sym there;
+      number = own;
       refused = λ _. c.requires.byte;
       next = λ z. absurd (c.if-second-ne0.true z);
     }
 
 pub returns : goal.returns
 returns c =
+    let file : List ℕ = c.args.file.now in
+    let front : Front = c.args.front in
+    let part_same : take (length file - front.byte) (drop front.byte file) ≡ second_of file = part-is file front.byte ∙ ap (λ (k : ℕ). drop k file) c.requires.byte in
+    let marked : tied_in file ≡ eqb (word_at (second_of file) 0) mark_df = let s = file in
+    has-mark (zero_in s) (second_of s) (sym c.requires.zero ∙ c.if-front.false) (subst (λ (u : List ℕ). 2 ≤ length u) part_same c.if-t-lt2.false) in
+    let there : tied_in file ≡ true = marked ∙ eq-eqb _ _ (ap (λ (u : List ℕ). word_at u 0) (sym part_same) ∙ sym c.word-mark.ensures ∙ c.if-mark-ne-MARK_DF.false) in
+    let own : let s = file in c.second_fault.result ≡ mapped_fault (setup_at s) (dealing_at (part_of s)) (zero_in s) (second_of s) = let s = file in
     let F = c.requires in
-    let yes = there c.before.before.before.before.before.before.before in
+    let t = take (length s - front.byte) (drop front.byte s) in
+    c.second_fault.ensures
+    ∙ ap (λ (p : Params). refusal (mapped_rules (setup_of p []) front.record t)) F.setup
+    ∙ ap (λ (x : DealingRecord). refusal (mapped_rules (setup_at s) x t)) F.dealing
+    ∙ ap (λ (u : List ℕ). refusal (mapped_rules (setup_at s) (dealing_at (part_of s)) u)) part_same
+    ∙ map-own (setup_at s) (dealing_at (part_of s)) (zero_in s) (second_of s) there in
+    let F = c.requires in
+    let yes = there in
     record {
       mapped = sym yes;
-      number = own c.before.before.before.before.before;
+      number = own;
       refused = λ n. absurd (n c.if-second-ne0.false);
       next = λ _. rw yes
           (omega (

@@ -4,18 +4,17 @@ use mathlib.Core.Path.{ap, ◌∙◌}
 use native.Mathlib.Omega.{arith}
 use Rattle.file_records.specs.Received.{place, fault_at}
 use Rattle.file_records.proofs.Reading.{pairs-mapped, pairs-some, reached-le, sent-are, verdicts-are}
-use Rattle.file_records.proofs.read_received.Tie as tie
 use Rattle.file_records.proofs.read_received.Goals as goal
 
-few : (c : tie.After-reached-k) → (c.args.h.n ≤ 32) × (c.reached-k.result ≤ 96)
-few c =
-    (c.requires, omega (arith, c.requires, c.reached-k.ensures, reached-le c.args.h c.args.t.now, (pairs-some c.args.h).1))
-
 pub fault_at-refusal-requires : goal.fault_at-refusal-requires
-fault_at-refusal-requires c = few c.before
+fault_at-refusal-requires c =
+    let few : (c.args.h.n ≤ 32) × (c.reached-k.result ≤ 96) = (c.requires, omega (arith, c.requires, c.reached-k.ensures, reached-le c.args.h c.args.t.now, (pairs-some c.args.h).1)) in
+    few
 
 pub place-byte-requires : goal.place-byte-requires
-place-byte-requires c = few c.before.before
+place-byte-requires c =
+    let few : (c.args.h.n ≤ 32) × (c.reached-k.result ≤ 96) = (c.requires, omega (arith, c.requires, c.reached-k.ensures, reached-le c.args.h c.args.t.now, (pairs-some c.args.h).1)) in
+    few
 
 pub returns : goal.returns
 returns c =

@@ -6,25 +6,27 @@ use native.Mathlib.Nat.{mul-le-mul_right}
 use lib.ListN.{replicate, length-set}
 use Rattle.base.proofs.Fill.{filled_none, filled-store}
 use Rattle.file_records.proofs.Reading.{begins}
-use Rattle.file_records.proofs.words_apart.Tie as tie
 use Rattle.file_records.proofs.words_apart.Goals as goal
 
 -- the last word has a small number
-
-bound : (c : tie.In-loop-j goal.the-invariant-loop-j goal.the-decreases-loop-j) → let x = c.args in x.step * c.loop-j.j ≤ 5 * 32
-bound c = omega (arith, mul-le-mul_right c.loop-j.j c.requires.1, c.requires.2)
 
 pub loop-j-init : goal.loop-j-init
 loop-j-init c = (omega arith, refl, filled_none _ _)
 
 pub overflow_mul-step : goal.overflow_mul-step
-overflow_mul-step c = omega (arith, bound c.before)
+overflow_mul-step c =
+    let bound : let x = c.args in x.step * c.loop-j.j ≤ 5 * 32 = omega (arith, mul-le-mul_right c.loop-j.j c.requires.1, c.requires.2) in
+    omega (arith, bound)
 
 pub overflow_add-i : goal.overflow_add-i
-overflow_add-i c = omega (arith, bound c.before, c.requires)
+overflow_add-i c =
+    let bound : let x = c.args in x.step * c.loop-j.j ≤ 5 * 32 = omega (arith, mul-le-mul_right c.loop-j.j c.requires.1, c.requires.2) in
+    omega (arith, bound, c.requires)
 
 pub word-requires : goal.word-requires
-word-requires c = omega (arith, bound c.before, c.requires)
+word-requires c =
+    let bound : let x = c.args in x.step * c.loop-j.j ≤ 5 * 32 = omega (arith, mul-le-mul_right c.loop-j.j c.requires.1, c.requires.2) in
+    omega (arith, bound, c.requires)
 
 pub loop-j-preserved : goal.loop-j-preserved
 loop-j-preserved c =

@@ -4,7 +4,6 @@ use mathlib.Core.Path.{◌≡◌}
 use lib.ListN.{length}
 use Rattle.base.specs.Fill.{filled}
 use Rattle.record_words.specs.Words.{word_at}
-use Rattle.file_records.proofs.words_apart.Tie as tie
 use Rattle.file_records.proofs.words_apart.Given as goal
 
 abbrev pub invariant-loop-j : goal.invariant-loop-j

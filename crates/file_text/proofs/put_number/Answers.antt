@@ -6,24 +6,21 @@ use lib.ListN.{take}
 use Rattle.io.specs.Digits.{last_digits}
 use Rattle.file_text.specs.Lines.{width, dec}
 use Rattle.file_text.proofs.Text.{fewest}
-use Rattle.file_text.proofs.put_number.Tie as tie
 use Rattle.file_text.proofs.put_number.Goals as goal
 
 -- how many digits there are, and what they are
 
-fair : (c : tie.After-decimal-k) → (c.decimal-k.result ≡ width c.args.x) × (c.decimal-k.result ≤ 5)
-fair c =
-    let w = c.decimal-k.ensures.1.0 in
-    fewest c.args.x c.decimal-k.result c.ranges.x.fits w.0 w.1 w.2
-
-told : (c : tie.After-decimal-k) → take c.decimal-k.result c.decimal-k.new.1.0 ≡ dec c.args.x
-unfolding dec
-told c = c.decimal-k.ensures.1.1 ∙ ap (λ (n : ℕ). last_digits 10 n c.args.x) (fair c).0
-
 pub put_text-requires : goal.put_text-requires
-put_text-requires c = omega (arith, (fair c.before.before.before).1, c.decimal-k.ensures.0.1)
+put_text-requires c =
+    let fair : (c.decimal-k.result ≡ width c.args.x) × (c.decimal-k.result ≤ 5) = let w = c.decimal-k.ensures.1.0 in
+    fewest c.args.x c.decimal-k.result c.ranges.x.fits w.0 w.1 w.2 in
+    omega (arith, fair.1, c.decimal-k.ensures.0.1)
 
 pub returns : goal.returns
+unfolding dec
 returns c =
+    let fair : (c.decimal-k.result ≡ width c.args.x) × (c.decimal-k.result ≤ 5) = let w = c.decimal-k.ensures.1.0 in
+    fewest c.args.x c.decimal-k.result c.ranges.x.fits w.0 w.1 w.2 in
+    let told : take c.decimal-k.result c.decimal-k.new.1.0 ≡ dec c.args.x = c.decimal-k.ensures.1.1 ∙ ap (λ (n : ℕ). last_digits 10 n c.args.x) fair.0 in
     let w = c.put_text.ensures in
-    rw (← told c.before.before.before.before.before.before) (record { text = w.text; place = w.place; small = omega (arith, w.place, (fair c.before.before.before.before.before.before).1, c.decimal-k.ensures.0.1) })
+    rw (← told) (record { text = w.text; place = w.place; small = omega (arith, w.place, fair.1, c.decimal-k.ensures.0.1) })

@@ -9,52 +9,66 @@ use Rattle.base.proofs.Rules.{accepted, written}
 use Rattle.file_reading.specs.File.{read_file, told}
 use Rattle.holder_file.specs.Calls.{lent_file, numbers}
 use Rattle.holder_file.proofs.Laws.{lent-means, lent-declined, file-declined, whole-answer, whole-left, contents, told_is, told-fits, copied}
-use Rattle.holder_file.proofs.file_contents.Tie as tie
 use Rattle.holder_file.proofs.file_contents.Goals as goal
 
-abbrev file : tie.After-lent_refusal-refusal → List ℕ
-file c = c.args.file.now
-
-abbrev buffer : tie.After-lent_refusal-refusal → List ℕ
-buffer c = c.args.contents.now
-
-abbrev declines : tie.After-lent_refusal-refusal → ℕ
-declines c = refusal (lent_file (file c) (buffer c) 27)
-
-lent : (c : tie.After-lent_refusal-refusal) → c.lent_refusal-refusal.result ≡ declines c
-lent c = c.lent_refusal-refusal.ensures (buffer c) refl
-
-fair : (c : tie.Else-refusal-ne0) → declines c.before ≡ 0
-fair c = sym (lent c.before) ∙ c.if-refusal-ne0.false
-
 pub returns-then-refusal-ne0 : goal.returns-then-refusal-ne0
-returns-then-refusal-ne0 c = let both = lent-declined (file c.before.before) (buffer c.before.before) 27 (λ D. []) (λ D. numbers (told D)) _ (lent c.before.before) c.if-refusal-ne0.true in record { answer = both.0; buffer = both.1 }
+returns-then-refusal-ne0 c =
+    let file : List ℕ = c.args.file.now in
+    let buffer : List ℕ = c.args.contents.now in
+    let declines : ℕ = refusal (lent_file file buffer 27) in
+    let lent : c.lent_refusal-refusal.result ≡ declines = c.lent_refusal-refusal.ensures buffer refl in let both = lent-declined file buffer 27 (λ D. []) (λ D. numbers (told D)) _ lent c.if-refusal-ne0.true in record { answer = both.0; buffer = both.1 }
 
 pub read_file-r-requires : goal.read_file-r-requires
-read_file-r-requires c = (lent-means (file c.before.before) (buffer c.before.before) 27 (fair c.before)).0
+read_file-r-requires c =
+    let file : List ℕ = c.args.file.now in
+    let buffer : List ℕ = c.args.contents.now in
+    let declines : ℕ = refusal (lent_file file buffer 27) in
+    let lent : c.lent_refusal-refusal.result ≡ declines = c.lent_refusal-refusal.ensures buffer refl in
+    let fair : declines ≡ 0 = sym lent ∙ c.if-refusal-ne0.false in
+    (lent-means file buffer 27 fair).0
 
 pub returns-then-k-ne0 : goal.returns-then-k-ne0
-returns-then-k-ne0 c = let both = file-declined (file c.before.before.before.before) (buffer c.before.before.before.before) 27 (λ D. []) (λ D. numbers (told D)) _ (fair c.before.before.before) c.read_file-r.ensures c.if-k-ne0.true in record { answer = both.0; buffer = both.1 }
+returns-then-k-ne0 c =
+    let file : List ℕ = c.args.file.now in
+    let buffer : List ℕ = c.args.contents.now in
+    let declines : ℕ = refusal (lent_file file buffer 27) in
+    let lent : c.lent_refusal-refusal.result ≡ declines = c.lent_refusal-refusal.ensures buffer refl in
+    let fair : declines ≡ 0 = sym lent ∙ c.if-refusal-ne0.false in let both = file-declined file buffer 27 (λ D. []) (λ D. numbers (told D)) _ fair c.read_file-r.ensures c.if-k-ne0.true in record { answer = both.0; buffer = both.1 }
 
 -- a file that was read to its end
 
 pub tell_numbers-all-requires : goal.tell_numbers-all-requires
-tell_numbers-all-requires c = (told-fits (file c.before.before.before.before.before) _ c.read_file-r.ensures c.if-k-ne0.false).1
+tell_numbers-all-requires c =
+    let file : List ℕ = c.args.file.now in
+    (told-fits file _ c.read_file-r.ensures c.if-k-ne0.false).1
 
 pub slice_bounds-copy-end : goal.slice_bounds-copy-end
 slice_bounds-copy-end c = sym c.tell_numbers-all.ensures.1
 
 pub copy-requires : goal.copy-requires
 copy-requires c =
-    (omega (arith, (lent-means (file c.before.before.before.before.before.before.before.before) (buffer c.before.before.before.before.before.before.before.before) 27 (fair c.before.before.before.before.before.before.before)).1), omega (arith, c.tell_numbers-all.ensures.1))
+    let file : List ℕ = c.args.file.now in
+    let buffer : List ℕ = c.args.contents.now in
+    let declines : ℕ = refusal (lent_file file buffer 27) in
+    let lent : c.lent_refusal-refusal.result ≡ declines = c.lent_refusal-refusal.ensures buffer refl in
+    let fair : declines ≡ 0 = sym lent ∙ c.if-refusal-ne0.false in
+    (omega (arith, (lent-means file buffer 27 fair).1), omega (arith, c.tell_numbers-all.ensures.1))
 
 pub returns : goal.returns
 returns c =
-    let s = file c.before.before.before.before.before.before.before.before.before.before.before in
-    let z = fair c.before.before.before.before.before.before.before.before.before.before in
+    let file : List ℕ = c.args.file.now in
+    let buffer : List ℕ = c.args.contents.now in
+    let declines : ℕ = refusal (lent_file file buffer 27) in
+    let lent : c.lent_refusal-refusal.result ≡ declines = c.lent_refusal-refusal.ensures buffer refl in
+    let fair : declines ≡ 0 = sym lent ∙ c.if-refusal-ne0.false in
+    let s = file in
+    let z = fair in
     let r = c.read_file-r in
     let C = contents s r.result r.ensures c.if-k-ne0.false in
-    let n = c.tell_numbers-all in record { answer = whole-answer (λ D. []) (read_file s) C.contents C.is ∙ accepted (declines c.before.before.before.before.before.before.before.before.before.before.before) _ z; buffer = written (declines c.before.before.before.before.before.before.before.before.before.before.before) _ _ _ z
-          (c.copy.ensures ∙ copied n.result (buffer c.before.before.before.before.before.before.before.before.before.before.before) 27 n.ensures.1 (lent-means s (buffer c.before.before.before.before.before.before.before.before.before.before.before) 27 z).1 ∙ n.ensures.0
+    let n = c.tell_numbers-all in record {
+      answer = whole-answer (λ D. []) (read_file s) C.contents C.is ∙ accepted declines _ z;
+      buffer = written declines _ _ _ z
+          (c.copy.ensures ∙ copied n.result buffer 27 n.ensures.1 (lent-means s buffer 27 z).1 ∙ n.ensures.0
           ∙ ap numbers (told_is s r.result r.ensures c.if-k-ne0.false)
-          ∙ whole-left (λ D. numbers (told D)) (read_file s) C.contents (buffer c.before.before.before.before.before.before.before.before.before.before.before) C.is) }
+          ∙ whole-left (λ D. numbers (told D)) (read_file s) C.contents buffer C.is);
+    }

@@ -15,75 +15,86 @@ use Rattle.file_reading.specs.File.{read_file}
 use Rattle.holder_file.specs.Text.{text_of}
 use Rattle.holder_file.specs.Calls.{lent_file}
 use Rattle.holder_file.proofs.Laws.{lent-means, lent-declined, file-declined, printed-left, printed-as, whole-answer, whole-left, contents, told_text, told-fits}
-use Rattle.holder_file.proofs.holder_file.Tie as tie
 use Rattle.holder_file.proofs.holder_file.Goals as goal
 
-abbrev file : tie.After-lent_refusal-refusal → List ℕ
-file c = c.args.file.now
-
-abbrev buffer : tie.After-lent_refusal-refusal → List ℕ
-buffer c = c.args.out.now
-
-abbrev declines : tie.After-lent_refusal-refusal → ℕ
-declines c = refusal (lent_file (file c) (buffer c) 512)
-
-lent : (c : tie.After-lent_refusal-refusal) → c.lent_refusal-refusal.result ≡ declines c
-lent c = c.lent_refusal-refusal.ensures (buffer c) refl
-
-fair : (c : tie.Else-refusal-ne0) → declines c.before ≡ 0
-fair c = sym (lent c.before) ∙ c.if-refusal-ne0.false
-
 pub returns-then-refusal-ne0 : goal.returns-then-refusal-ne0
-returns-then-refusal-ne0 c = let both = lent-declined (file c.before.before) (buffer c.before.before) 512 (λ D. length (text_of D) ∷ []) (λ D. text_of D ++ drop (length (text_of D)) (buffer c.before.before)) _ (lent c.before.before) c.if-refusal-ne0.true in record { answer = both.0; buffer = both.1 }
+returns-then-refusal-ne0 c =
+    let file : List ℕ = c.args.file.now in
+    let buffer : List ℕ = c.args.out.now in
+    let declines : ℕ = refusal (lent_file file buffer 512) in
+    let lent : c.lent_refusal-refusal.result ≡ declines = c.lent_refusal-refusal.ensures buffer refl in let both = lent-declined file buffer 512 (λ D. length (text_of D) ∷ []) (λ D. text_of D ++ drop (length (text_of D)) buffer) _ lent c.if-refusal-ne0.true in record { answer = both.0; buffer = both.1 }
 
 pub read_file-r-requires : goal.read_file-r-requires
-read_file-r-requires c = (lent-means (file c.before.before) (buffer c.before.before) 512 (fair c.before)).0
+read_file-r-requires c =
+    let file : List ℕ = c.args.file.now in
+    let buffer : List ℕ = c.args.out.now in
+    let declines : ℕ = refusal (lent_file file buffer 512) in
+    let lent : c.lent_refusal-refusal.result ≡ declines = c.lent_refusal-refusal.ensures buffer refl in
+    let fair : declines ≡ 0 = sym lent ∙ c.if-refusal-ne0.false in
+    (lent-means file buffer 512 fair).0
 
 pub returns-then-k-ne0 : goal.returns-then-k-ne0
-returns-then-k-ne0 c = let both = file-declined (file c.before.before.before.before) (buffer c.before.before.before.before) 512 (λ D. length (text_of D) ∷ []) (λ D. text_of D ++ drop (length (text_of D)) (buffer c.before.before.before.before)) _ (fair c.before.before.before) c.read_file-r.ensures c.if-k-ne0.true in record { answer = both.0; buffer = both.1 }
+returns-then-k-ne0 c =
+    let file : List ℕ = c.args.file.now in
+    let buffer : List ℕ = c.args.out.now in
+    let declines : ℕ = refusal (lent_file file buffer 512) in
+    let lent : c.lent_refusal-refusal.result ≡ declines = c.lent_refusal-refusal.ensures buffer refl in
+    let fair : declines ≡ 0 = sym lent ∙ c.if-refusal-ne0.false in let both = file-declined file buffer 512 (λ D. length (text_of D) ∷ []) (λ D. text_of D ++ drop (length (text_of D)) buffer) _ fair c.read_file-r.ensures c.if-k-ne0.true in record { answer = both.0; buffer = both.1 }
 
 -- a file that was read to its end
 
-fits : (c : tie.After-mapped_lines-m) → let t = c.read_file-r.result.told in
-    (t.setup.l ≤ 8) × ((length t.shares ≡ 8) × (length t.shares2 ≡ 8))
-fits c = told-fits (file c.before.before.before.before.before.before.before.before.before.before) _ c.read_file-r.ensures c.if-k-ne0.false
-
 -- how many lines the second dealing has
 
-few : (c : tie.After-mapped_lines-m) → c.mapped_lines-m.result ≤ 8
-few c =
-    let t = c.read_file-r.result.told in
-    omega (arith, c.mapped_lines-m.ensures, picked (λ k. k ≤ 8) t.mapped t.setup.l 0 (fits c).0 (omega arith))
-
 pub slice_bounds-shares-end : goal.slice_bounds-shares-end
-slice_bounds-shares-end c = omega (arith, (fits c.before).0, (fits c.before).1.0)
+slice_bounds-shares-end c =
+    let file : List ℕ = c.args.file.now in
+    let fits : let t = c.read_file-r.result.told in (t.setup.l ≤ 8) × ((length t.shares ≡ 8) × (length t.shares2 ≡ 8)) = told-fits file _ c.read_file-r.ensures c.if-k-ne0.false in
+    omega (arith, fits.0, fits.1.0)
 
 pub slice_bounds-print_told-end : goal.slice_bounds-print_told-end
 slice_bounds-print_told-end c = sym (length-take-le _ _ (array-share-prefix-shares «bare»c.before))
 
 pub slice_bounds-shares2-end : goal.slice_bounds-shares2-end
-slice_bounds-shares2-end c = omega (arith, few c.before.before, (fits c.before.before).1.1)
+slice_bounds-shares2-end c =
+    let file : List ℕ = c.args.file.now in
+    let fits : let t = c.read_file-r.result.told in (t.setup.l ≤ 8) × ((length t.shares ≡ 8) × (length t.shares2 ≡ 8)) = told-fits file _ c.read_file-r.ensures c.if-k-ne0.false in
+    let few : c.mapped_lines-m.result ≤ 8 = let t = c.read_file-r.result.told in
+    omega (arith, c.mapped_lines-m.ensures, picked (λ k. k ≤ 8) t.mapped t.setup.l 0 fits.0 (omega arith)) in
+    omega (arith, few, fits.1.1)
 
 pub slice_bounds-print_told-end-2 : goal.slice_bounds-print_told-end-2
 slice_bounds-print_told-end-2 c = sym (length-take-le _ _ (array-share-prefix-shares2 «bare»c.before))
 
 pub print_told-count-requires : goal.print_told-count-requires
 print_told-count-requires c =
+    let file : List ℕ = c.args.file.now in
+    let fits : let t = c.read_file-r.result.told in (t.setup.l ≤ 8) × ((length t.shares ≡ 8) × (length t.shares2 ≡ 8)) = told-fits file _ c.read_file-r.ensures c.if-k-ne0.false in
+    let few : c.mapped_lines-m.result ≤ 8 = let t = c.read_file-r.result.told in
+    omega (arith, c.mapped_lines-m.ensures, picked (λ k. k ≤ 8) t.mapped t.setup.l 0 fits.0 (omega arith)) in
+    let buffer : List ℕ = c.args.out.now in
+    let declines : ℕ = refusal (lent_file file buffer 512) in
+    let lent : c.lent_refusal-refusal.result ≡ declines = c.lent_refusal-refusal.ensures buffer refl in
+    let fair : declines ≡ 0 = sym lent ∙ c.if-refusal-ne0.false in
     let t = c.read_file-r.result.told in (
-      omega (arith, (fits c.before.before.before.before).0, length-take-le t.setup.l t.shares (array-share-prefix-shares «bare»m)),
-      omega (arith, few c.before.before.before.before, length-take-le c.mapped_lines-m.result t.shares2 (array-share-prefix-shares2 «bare»one)),
-      omega (arith, (lent-means (file c.before.before.before.before.before.before.before.before.before.before.before.before.before.before) (buffer c.before.before.before.before.before.before.before.before.before.before.before.before.before.before) 512 (fair c.before.before.before.before.before.before.before.before.before.before.before.before.before)).1),
+      omega (arith, fits.0, length-take-le t.setup.l t.shares (array-share-prefix-shares «bare»m)),
+      omega (arith, few, length-take-le c.mapped_lines-m.result t.shares2 (array-share-prefix-shares2 «bare»one)),
+      omega (arith, (lent-means file buffer 512 fair).1),
     )
 
 pub returns : goal.returns
 returns c =
-    let s = file c.before.before.before.before.before.before.before.before.before.before.before.before.before.before.before.before.before in
-    let z = fair c.before.before.before.before.before.before.before.before.before.before.before.before.before.before.before.before in
+    let file : List ℕ = c.args.file.now in
+    let buffer : List ℕ = c.args.out.now in
+    let declines : ℕ = refusal (lent_file file buffer 512) in
+    let lent : c.lent_refusal-refusal.result ≡ declines = c.lent_refusal-refusal.ensures buffer refl in
+    let fair : declines ≡ 0 = sym lent ∙ c.if-refusal-ne0.false in
+    let s = file in
+    let z = fair in
     let r = c.read_file-r in
     let t = r.result.told in
     let C = contents s r.result r.ensures c.if-k-ne0.false in
     let text =
     ap (λ (k : ℕ). printed (setup_of t.setup []) t.dealing t.holder t.outcome.judgement t.outcome.fate (take t.setup.l t.shares) (take k t.shares2))
     c.mapped_lines-m.ensures ∙ told_text s r.result r.ensures c.if-k-ne0.false in
-    let P = printed-as text c.print_told-count.ensures in record { answer = ap (λ (n : ℕ). given (n ∷ [])) P.count ∙ whole-answer (λ D. length (text_of D) ∷ []) (read_file s) C.contents C.is ∙ accepted (declines c.before.before.before.before.before.before.before.before.before.before.before.before.before.before.before.before.before) _ z; buffer = written (declines c.before.before.before.before.before.before.before.before.before.before.before.before.before.before.before.before.before) _ _ _ z
-          (printed-left P ∙ whole-left (λ D. text_of D ++ drop (length (text_of D)) (buffer c.before.before.before.before.before.before.before.before.before.before.before.before.before.before.before.before.before)) (read_file s) C.contents (buffer c.before.before.before.before.before.before.before.before.before.before.before.before.before.before.before.before.before) C.is) }
+    let P = printed-as text c.print_told-count.ensures in record { answer = ap (λ (n : ℕ). given (n ∷ [])) P.count ∙ whole-answer (λ D. length (text_of D) ∷ []) (read_file s) C.contents C.is ∙ accepted declines _ z; buffer = written declines _ _ _ z
+          (printed-left P ∙ whole-left (λ D. text_of D ++ drop (length (text_of D)) buffer) (read_file s) C.contents buffer C.is) }

@@ -8,18 +8,9 @@ use lib.ListN.{length}
 use Rattle.base.proofs.Choice.{either}
 use Rattle.key_values.specs.Inner.{all, differs}
 use Rattle.key_values.proofs.Laws.{fewer, agreed-no, agreed-yes}
-use Rattle.key_values.proofs.all_agree.Tie as tie
 use Rattle.key_values.proofs.all_agree.Goals as goal
 
 -- column b lies in the list
-
-rows : (c : tie.After-expected-wanted goal.the-invariant-loop-b goal.the-decreases-loop-b)
-    → let b = c.loop-b.b in
-    (b * c.args.k ≤ 48) × (b * c.args.k + c.args.k ≤ length c.args.shares.now)
-rows c =
-    let m = mul-le-mul_right c.args.k c.loop-b-test.true in
-    let e = suc-mul c.loop-b.b c.args.k in
-    (omega (arith, m, e, c.requires.le_k.1), omega (arith, m, e, c.requires.le_k.2))
 
 pub returns-then-k-eq7 : goal.returns-then-k-eq7
 returns-then-k-eq7 c = all (λ b x l m n. absurd (omega (arith, m, n, c.if-k-eq7.true)))
@@ -31,12 +22,19 @@ pub expected-wanted-requires : goal.expected-wanted-requires
 expected-wanted-requires c = record { depots = fewer c.requires.depots c.requires.le_k.0; below = c.requires.below; below_2 = c.requires.columns _ }
 
 pub overflow_mul-b : goal.overflow_mul-b
-overflow_mul-b c = let r = rows c.before in omega (arith, r.0, r.1)
+overflow_mul-b c =
+    let rows : let b = c.loop-b.b in (b * c.args.k ≤ 48) × (b * c.args.k + c.args.k ≤ length c.args.shares.now) = let m = mul-le-mul_right c.args.k c.loop-b-test.true in
+    let e = suc-mul c.loop-b.b c.args.k in
+    (omega (arith, m, e, c.requires.le_k.1), omega (arith, m, e, c.requires.le_k.2)) in
+    let r = rows in omega (arith, r.0, r.1)
 
 pub agree-requires : goal.agree-requires
 agree-requires c =
+    let rows : let b = c.loop-b.b in (b * c.args.k ≤ 48) × (b * c.args.k + c.args.k ≤ length c.args.shares.now) = let m = mul-le-mul_right c.args.k c.loop-b-test.true in
+    let e = suc-mul c.loop-b.b c.args.k in
+    (omega (arith, m, e, c.requires.le_k.1), omega (arith, m, e, c.requires.le_k.2)) in
     let p = c.requires in
-    let r = rows c.before in record { le_k = (p.0.0, p.0.1, omega (arith, r.0), omega (arith, r.1)); depots = p.1.0; below = p.1.1.1.1.1; below_2 = p.1.1.1.0 }
+    let r = rows in record { le_k = (p.0.0, p.0.1, omega (arith, r.0), omega (arith, r.1)); depots = p.1.0; below = p.1.1.1.1.1; below_2 = p.1.1.1.0 }
 
 pub returns-then-not-agree : goal.returns-then-not-agree
 returns-then-not-agree c =

@@ -6,7 +6,6 @@ use mathlib.Core.Path.{◌≡◌}
 use lib.ListN.{get_or}
 use Rattle.base.specs.Fill.{tab}
 use Rattle.key_values.specs.Inner.{expected, agrees}
-use Rattle.key_values.proofs.all_agree.Tie as tie
 use Rattle.key_values.proofs.all_agree.Given as goal
 
 abbrev pub invariant-loop-b : goal.invariant-loop-b

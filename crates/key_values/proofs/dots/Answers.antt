@@ -1,36 +1,32 @@
 -- The four sums over the first i lanes.
-use Prim.Native.Nat.{ℕ, ◌+◌, ◌-◌, ◌*◌, ◌<◌}
+use Prim.Native.Nat.{◌+◌, ◌-◌, ◌*◌}
 use mathlib.Core.Path.{refl, ap, ◌∙◌}
 use native.Mathlib.Nat.{le_antisymm}
 use native.Mathlib.Omega.{arith}
 use borrow.Author.Rules.{rules}
 use Rattle.base.specs.Sum.{sum}
 use Rattle.field.specs.Dot.{at, dot}
-use Rattle.key_values.proofs.Laws.{below-dot, dot-next}
-use Rattle.key_values.proofs.dots.Tie as tie
+use Rattle.key_values.proofs.Laws.{dot-next}
 use Rattle.key_values.proofs.dots.Goals as goal
-
-bound : (b : tie.At-loop-i goal.the-invariant-loop-i goal.the-decreases-loop-i) (q : ℕ) → dot b.loop-i.i (at b.args.t1) (λ k. at b.args.v.now (16 * q + k)) < 1048577
-bound b q = below-dot b.loop-i.i _ _ b.loop-i.invariant.0 (λ k m. b.requires.below k) (λ k m. b.requires.below_2 _)
 
 pub loop-i-init : goal.loop-i-init
 loop-i-init c = (search rules, unfold dot sum in refl, unfold dot sum in refl, unfold dot sum in refl, unfold dot sum in refl)
 
 pub plus-a-requires : goal.plus-a-requires
 plus-a-requires c =
-    (rw c.loop-i.invariant.1 (bound c.before.before.before.before 0), c.requires.below _, c.requires.below_2 _)
+    (rw c.loop-i.invariant.1 (bound 0), c.requires.below _, c.requires.below_2 _)
 
 pub plus-b-requires : goal.plus-b-requires
 plus-b-requires c =
-    (rw c.loop-i.invariant.2 (bound c.before.before.before.before.before.before 1), c.requires.below _, c.requires.below_2 _)
+    (rw c.loop-i.invariant.2 (bound 1), c.requires.below _, c.requires.below_2 _)
 
 pub plus-c-requires : goal.plus-c-requires
 plus-c-requires c =
-    (rw c.loop-i.invariant.3 (bound c.before.before.before.before.before.before.before.before 2), c.requires.below _, c.requires.below_2 _)
+    (rw c.loop-i.invariant.3 (bound 2), c.requires.below _, c.requires.below_2 _)
 
 pub plus-d-requires : goal.plus-d-requires
 plus-d-requires c =
-    (rw c.loop-i.invariant.4 (bound c.before.before.before.before.before.before.before.before.before.before 3), c.requires.below _, c.requires.below_2 _)
+    (rw c.loop-i.invariant.4 (bound 3), c.requires.below _, c.requires.below_2 _)
 
 pub loop-i-preserved : goal.loop-i-preserved
 loop-i-preserved c =

@@ -2,7 +2,6 @@
 use Prim.Native.Nat.{◌+◌, ◌-◌, ◌*◌, ◌≤◌}
 use mathlib.Core.Path.{◌≡◌}
 use Rattle.field.specs.Dot.{at, dot}
-use Rattle.key_values.proofs.dots.Tie as tie
 use Rattle.key_values.proofs.dots.Given as goal
 
 abbrev pub invariant-loop-i : goal.invariant-loop-i

@@ -11,14 +11,7 @@ use Rattle.base.proofs.Matrix.{below-tab}
 use Rattle.field.specs.Dot.{at}
 use Rattle.key_weights.specs.Inner.{away}
 use Rattle.key_values.proofs.Laws.{sums_none, sums_next, below-dot}
-use Rattle.key_values.proofs.expected.Tie as tie
 use Rattle.key_values.proofs.expected.Goals as goal
-
-sums-below : (b : tie.At-loop-a goal.the-invariant-loop-a goal.the-decreases-loop-a) → Below 1048577 b.loop-a.sums
-sums-below b =
-    rw b.loop-a.invariant.1
-    (below-tab 1048577 16 _ (omega arith)
-    (λ i l. below-dot b.loop-a.a _ _ (omega (arith, b.loop-a.invariant.0)) (λ k m. b.requires.below_2 _) (λ k m. b.requires.below _)))
 
 pub loop-a-init : goal.loop-a-init
 loop-a-init c = (search rules, sums_none (λ s. at c.args.t3 (at c.args.members.now s)) (λ s. away c.args.inverses.now (at c.args.members.now s)))
@@ -36,7 +29,10 @@ pub away_from-requires : goal.away_from-requires
 away_from-requires c = c.requires.depots.below c.loop-a.a c.loop-a-test.true
 
 pub add16-next-requires : goal.add16-next-requires
-add16-next-requires c = record { x_bound = omega (arith, c.requires.below_2 (at c.args.members.now c.loop-a.a)); below = sums-below c.before.before.before.before; below_2 = rw c.away_from.ensures (below-tab 257 16 _ (omega arith) (λ i l. c.requires.below _)) }
+add16-next-requires c =
+    let sums-below : Below 1048577 c.loop-a.sums = rw c.loop-a.invariant.1
+    (below-tab 1048577 16 _ (omega arith)
+    (λ i l. below-dot c.loop-a.a _ _ (omega (arith, c.loop-a.invariant.0)) (λ k m. c.requires.below_2 _) (λ k m. c.requires.below _))) in record { x_bound = omega (arith, c.requires.below_2 (at c.args.members.now c.loop-a.a)); below = sums-below; below_2 = rw c.away_from.ensures (below-tab 257 16 _ (omega arith) (λ i l. c.requires.below _)) }
 
 pub loop-a-preserved : goal.loop-a-preserved
 loop-a-preserved c =
@@ -47,7 +43,11 @@ loop-a-preserved c =
     )
 
 pub folded16-requires : goal.folded16-requires
-folded16-requires c = sums-below c.before.before
+folded16-requires c =
+    let sums-below : Below 1048577 c.loop-a.sums = rw c.loop-a.invariant.1
+    (below-tab 1048577 16 _ (omega arith)
+    (λ i l. below-dot c.loop-a.a _ _ (omega (arith, c.loop-a.invariant.0)) (λ k m. c.requires.below_2 _) (λ k m. c.requires.below _))) in
+    sums-below
 
 pub returns : goal.returns
 returns c =

@@ -4,7 +4,6 @@ use mathlib.Core.Path.{◌≡◌}
 use Rattle.base.specs.Fill.{tab}
 use Rattle.field.specs.Dot.{at, dot}
 use Rattle.key_weights.specs.Inner.{away}
-use Rattle.key_values.proofs.expected.Tie as tie
 use Rattle.key_values.proofs.expected.Given as goal
 
 abbrev pub invariant-loop-a : goal.invariant-loop-a

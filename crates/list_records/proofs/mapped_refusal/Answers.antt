@@ -7,21 +7,18 @@ use Rattle.scheme.specs.Setup.{setup_of}
 use Rattle.scheme.specs.Calls.{table}
 use Rattle.record_layouts.specs.Records.{standing_rules, mapped_layout, mapped_lent}
 use Rattle.record_layouts.proofs.Calls.{by_first, by-second}
-use Rattle.list_records.proofs.mapped_refusal.Tie as tie
 use Rattle.list_records.proofs.mapped_refusal.Goals as goal
-
-lent_is : (c : tie.After-or_size-b) → let x = c.args in let S = setup_of x.s [] in
-    c.or_size-b.result ≡ refusal (table S (mapped_lent S x.g_room x.h-room x.phi-room) [])
-lent_is c = cc
 
 pub returns-then-b-ne0 : goal.returns-then-b-ne0
 returns-then-b-ne0 c =
+    let lent_is : let x = c.args in let S = setup_of x.s [] in c.or_size-b.result ≡ refusal (table S (mapped_lent S x.g_room x.h-room x.phi-room) []) = cc in
     let x = c.args in
     let S = setup_of x.s [] in
-    by_first (table S (mapped_lent S x.g_room x.h-room x.phi-room) []) (standing_rules mapped_layout S x.part.now) _ (lent_is c.before.before) c.if-b-ne0.true
+    by_first (table S (mapped_lent S x.g_room x.h-room x.phi-room) []) (standing_rules mapped_layout S x.part.now) _ lent_is c.if-b-ne0.true
 
 pub returns : goal.returns
 returns c =
+    let lent_is : let x = c.args in let S = setup_of x.s [] in c.or_size-b.result ≡ refusal (table S (mapped_lent S x.g_room x.h-room x.phi-room) []) = cc in
     let x = c.args in
     let S = setup_of x.s [] in
-    by-second (table S (mapped_lent S x.g_room x.h-room x.phi-room) []) (standing_rules mapped_layout S x.part.now) _ _ tt (lent_is c.before.before.before) c.if-b-ne0.false c.mapped_fault.ensures
+    by-second (table S (mapped_lent S x.g_room x.h-room x.phi-room) []) (standing_rules mapped_layout S x.part.now) _ _ tt lent_is c.if-b-ne0.false c.mapped_fault.ensures

@@ -14,35 +14,19 @@ use Rattle.scheme.specs.Setup.{dim, setup_of}
 use Rattle.scheme.specs.Calls.{limits}
 use Rattle.record_layouts.specs.Records.{mark_su, due, setup_at, setup_size, read_matrix_rules}
 use Rattle.record_layouts.proofs.Calls.{after_limits, by-due, by-limits, past-limits, by_entries}
-use Rattle.list_records.proofs.matrix_refusal.Tie as tie
 use Rattle.list_records.proofs.matrix_refusal.Goals as goal
 
-due-none : (c : tie.Else-a-ne0) → refusal (due mark_su 10 c.args.s.now) ≡ 0
-due-none c = sym c.or_due-a.ensures ∙ c.if-a-ne0.false
-
-limits-are : (c : tie.After-limits_refusal-b) → let s = c.args.s.now in
-    c.limits_refusal-b.result ≡ refusal (limits (setup_at s))
-limits-are c = c.limits_refusal-b.ensures ∙ ap (λ (x : Params). refusal (limits (setup_of x []))) c.params_at-x.ensures
-
-len_is : (c : tie.After-matrix_len-len) → let S = setup_at c.args.s.now in
-    c.matrix_len-len.result ≡ S.n * dim S
-len_is c = c.matrix_len-len.ensures ∙ ap (λ (x : Params). x.n * (x.l + x.e)) c.params_at-x.ensures
-
 -- what is left past the limits
-
-past : (c : tie.Else-b-ne0) → let x = c.args in
-    refusal (read_matrix_rules x.s.now x.room) ≡ refusal (after_limits x.s.now x.room)
-past c =
-    let x = c.args in
-    past-limits x.s.now x.room (due-none c.before.before.before.before) (sym (limits-are c.before) ∙ c.if-b-ne0.false)
 
 pub returns-then-a-ne0 : goal.returns-then-a-ne0
 returns-then-a-ne0 c = let x = c.args in by-due x.s.now x.room _ c.or_due-a.ensures c.if-a-ne0.true
 
 pub returns-then-b-ne0 : goal.returns-then-b-ne0
 returns-then-b-ne0 c =
+    let due-none : refusal (due mark_su 10 c.args.s.now) ≡ 0 = sym c.or_due-a.ensures ∙ c.if-a-ne0.false in
+    let limits-are : let s = c.args.s.now in c.limits_refusal-b.result ≡ refusal (limits (setup_at s)) = c.limits_refusal-b.ensures ∙ ap (λ (x : Params). refusal (limits (setup_of x []))) c.params_at-x.ensures in
     let x = c.args in
-    by-limits x.s.now x.room (due-none c.before.before.before.before.before) _ (limits-are c.before.before) c.if-b-ne0.true
+    by-limits x.s.now x.room due-none _ limits-are c.if-b-ne0.true
 
 pub overflow_mul-len : goal.overflow_mul-len
 overflow_mul-len c =
@@ -56,23 +40,38 @@ overflow_add-len c =
 
 pub returns-then-s-len : goal.returns-then-s-len
 returns-then-s-len c =
+    let len_is : let S = setup_at c.args.s.now in c.matrix_len-len.result ≡ S.n * dim S = c.matrix_len-len.ensures ∙ ap (λ (x : Params). x.n * (x.l + x.e)) c.params_at-x.ensures in
+    let due-none : refusal (due mark_su 10 c.args.s.now) ≡ 0 = sym c.or_due-a.ensures ∙ c.if-a-ne0.false in
+    let limits-are : let s = c.args.s.now in c.limits_refusal-b.result ≡ refusal (limits (setup_at s)) = c.limits_refusal-b.ensures ∙ ap (λ (x : Params). refusal (limits (setup_of x []))) c.params_at-x.ensures in
+    let past : let x = c.args in refusal (read_matrix_rules x.s.now x.room) ≡ refusal (after_limits x.s.now x.room) = let x = c.args in
+    past-limits x.s.now x.room due-none (sym limits-are ∙ c.if-b-ne0.false) in
     let s = c.args.s.now in
-    let short : length s < setup_size (setup_at s) = omega (arith, len_is c.before.before.before.before, c.if-s-len.true) in
-    rw (past c.before.before) (simp (lt-ltb (length s) (setup_size (setup_at s)) short))
+    let short : length s < setup_size (setup_at s) = omega (arith, len_is, c.if-s-len.true) in
+    rw past (simp (lt-ltb (length s) (setup_size (setup_at s)) short))
 
 pub returns-then-room-len : goal.returns-then-room-len
 returns-then-room-len c =
+    let len_is : let S = setup_at c.args.s.now in c.matrix_len-len.result ≡ S.n * dim S = c.matrix_len-len.ensures ∙ ap (λ (x : Params). x.n * (x.l + x.e)) c.params_at-x.ensures in
+    let due-none : refusal (due mark_su 10 c.args.s.now) ≡ 0 = sym c.or_due-a.ensures ∙ c.if-a-ne0.false in
+    let limits-are : let s = c.args.s.now in c.limits_refusal-b.result ≡ refusal (limits (setup_at s)) = c.limits_refusal-b.ensures ∙ ap (λ (x : Params). refusal (limits (setup_of x []))) c.params_at-x.ensures in
+    let past : let x = c.args in refusal (read_matrix_rules x.s.now x.room) ≡ refusal (after_limits x.s.now x.room) = let x = c.args in
+    past-limits x.s.now x.room due-none (sym limits-are ∙ c.if-b-ne0.false) in
     let x = c.args in
     let s = x.s.now in
     let S = setup_at s in
-    let e = len_is c.before.before.before.before.before in
+    let e = len_is in
     let whole : setup_size S ≤ length s = omega (arith, e, c.if-s-len.false) in
-    rw (past c.before.before.before) (simp (le-ltb (length s) (setup_size S) whole, ne_eqb x.room (S.n * dim S) (λ z. c.if-room-len.true (z ∙ sym e))))
+    rw past (simp (le-ltb (length s) (setup_size S) whole, ne_eqb x.room (S.n * dim S) (λ z. c.if-room-len.true (z ∙ sym e))))
 
 pub returns : goal.returns
 returns c =
+    let len_is : let S = setup_at c.args.s.now in c.matrix_len-len.result ≡ S.n * dim S = c.matrix_len-len.ensures ∙ ap (λ (x : Params). x.n * (x.l + x.e)) c.params_at-x.ensures in
+    let due-none : refusal (due mark_su 10 c.args.s.now) ≡ 0 = sym c.or_due-a.ensures ∙ c.if-a-ne0.false in
+    let limits-are : let s = c.args.s.now in c.limits_refusal-b.result ≡ refusal (limits (setup_at s)) = c.limits_refusal-b.ensures ∙ ap (λ (x : Params). refusal (limits (setup_of x []))) c.params_at-x.ensures in
+    let past : let x = c.args in refusal (read_matrix_rules x.s.now x.room) ≡ refusal (after_limits x.s.now x.room) = let x = c.args in
+    past-limits x.s.now x.room due-none (sym limits-are ∙ c.if-b-ne0.false) in
     let x = c.args in
     let S = setup_at x.s.now in
-    let whole : setup_size S ≤ length x.s.now = omega (arith, len_is c.before.before.before.before.before.before, c.if-s-len.false) in
-    rw (past c.before.before.before.before)
-    (by_entries x.s.now x.room _ _ _ c.params_at-x.ensures (len_is c.before.before.before.before.before.before) whole c.if-room-len.false c.or_words.ensures)
+    let whole : setup_size S ≤ length x.s.now = omega (arith, len_is, c.if-s-len.false) in
+    rw past
+    (by_entries x.s.now x.room _ _ _ c.params_at-x.ensures len_is whole c.if-room-len.false c.or_words.ensures)

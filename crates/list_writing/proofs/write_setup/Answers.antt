@@ -13,12 +13,7 @@ use Rattle.scheme.specs.Setup.{setup_of}
 use Rattle.scheme.specs.Calls.{room, matrix}
 use Rattle.scheme.proofs.Calls.{in_order}
 use Rattle.record_layouts.specs.Records.{setup_size, write_setup_rules}
-use Rattle.list_writing.proofs.write_setup.Tie as tie
 use Rattle.list_writing.proofs.write_setup.Goals as goal
-
-is : (c : tie.After-or_elements-refusal) → let x = c.args in
-    c.or_elements-refusal.result ≡ refusal (write_setup_rules (setup_of x.s x.matrix.now) (length x.out.now))
-is c = cc
 
 pub overflow_mul-len : goal.overflow_mul-len
 overflow_mul-len c =
@@ -32,15 +27,18 @@ overflow_add-len c =
 
 pub returns-then-refusal-ne0 : goal.returns-then-refusal-ne0
 returns-then-refusal-ne0 c =
-    let e = is c.before.before in record { answer = rw (← e) (declined _ _ c.if-refusal-ne0.true); buffer = rw (← e) (unchanged _ _ _ c.if-refusal-ne0.true) }
+    let is : let x = c.args in c.or_elements-refusal.result ≡ refusal (write_setup_rules (setup_of x.s x.matrix.now) (length x.out.now)) = cc in
+    let e = is in record { answer = rw (← e) (declined _ _ c.if-refusal-ne0.true); buffer = rw (← e) (unchanged _ _ _ c.if-refusal-ne0.true) }
 
 pub put_setup-requires : goal.put_setup-requires
 put_setup-requires c =
+    let is : let x = c.args in c.or_elements-refusal.result ≡ refusal (write_setup_rules (setup_of x.s x.matrix.now) (length x.out.now)) = cc in
     let x = c.args in
     let S = setup_of x.s x.matrix.now in
-    let r = in_order S (matrix S ∷ room (length x.out.now) (setup_size S) ∷ []) [] tt (sym (is c.before.before.before) ∙ c.if-refusal-ne0.false) in
+    let r = in_order S (matrix S ∷ room (length x.out.now) (setup_size S) ∷ []) [] tt (sym is ∙ c.if-refusal-ne0.false) in
     omega (arith, r.lent.0.size, r.lent.1.0)
 
 pub returns : goal.returns
 returns c =
-    let z = sym (is c.before.before.before.before.before.before) ∙ c.if-refusal-ne0.false in record { answer = accepted _ _ z; buffer = written _ _ _ _ z c.put_setup.ensures }
+    let is : let x = c.args in c.or_elements-refusal.result ≡ refusal (write_setup_rules (setup_of x.s x.matrix.now) (length x.out.now)) = cc in
+    let z = sym is ∙ c.if-refusal-ne0.false in record { answer = accepted _ _ z; buffer = written _ _ _ _ z c.put_setup.ensures }

@@ -11,18 +11,7 @@ use Rattle.base.proofs.Rules.{declined, unchanged, accepted, written}
 use Rattle.record_layouts.specs.declared.DealingRecord.{DealingRecord}
 use Rattle.record_layouts.specs.Records.{dealing_size, parts_h, read_dealing_rules}
 use Rattle.record_layouts.proofs.Calls.{parts-room}
-use Rattle.record_reading.proofs.read_dealing.Tie as tie
 use Rattle.record_reading.proofs.read_dealing.Goals as goal
-
-none : (c : tie.Else-refusal-ne0) → let x = c.args in
-    refusal (read_dealing_rules (setup_of x.s []) x.part.now (length x.g.now) (length x.h.now)) ≡ 0
-none c = sym c.dealing_refusal-refusal.ensures ∙ c.if-refusal-ne0.false
-
-whole : (c : tie.Else-refusal-ne0) → let x = c.args in
-    (length x.g.now ≡ x.s.l + x.s.e) × (length x.h.now ≡ x.s.l + x.s.e) × (dealing_size (setup_of x.s []) ≤ length x.part.now)
-whole c =
-    let x = c.args in
-    parts-room (setup_of x.s []) x.part.now (length x.g.now) (length x.h.now) (none c)
 
 pub returns-then-refusal-ne0 : goal.returns-then-refusal-ne0
 returns-then-refusal-ne0 c =
@@ -30,10 +19,17 @@ returns-then-refusal-ne0 c =
     let t = c.if-refusal-ne0.true in record { answer = rw (← e) (declined _ _ t); row = rw (← e) (unchanged _ _ _ t); column = rw (← e) (unchanged _ _ _ t) }
 
 pub get_parts-requires : goal.get_parts-requires
-get_parts-requires c = let k = whole c.before.before.before in (k.0, omega (arith, k.1, k.2))
+get_parts-requires c =
+    let none : let x = c.args in refusal (read_dealing_rules (setup_of x.s []) x.part.now (length x.g.now) (length x.h.now)) ≡ 0 = sym c.dealing_refusal-refusal.ensures ∙ c.if-refusal-ne0.false in
+    let whole : let x = c.args in (length x.g.now ≡ x.s.l + x.s.e) × (length x.h.now ≡ x.s.l + x.s.e) × (dealing_size (setup_of x.s []) ≤ length x.part.now) = let x = c.args in
+    parts-room (setup_of x.s []) x.part.now (length x.g.now) (length x.h.now) none in
+    let k = whole in (k.0, omega (arith, k.1, k.2))
 
 pub returns : goal.returns
 returns c =
+    let none : let x = c.args in refusal (read_dealing_rules (setup_of x.s []) x.part.now (length x.g.now) (length x.h.now)) ≡ 0 = sym c.dealing_refusal-refusal.ensures ∙ c.if-refusal-ne0.false in
+    let whole : let x = c.args in (length x.g.now ≡ x.s.l + x.s.e) × (length x.h.now ≡ x.s.l + x.s.e) × (dealing_size (setup_of x.s []) ≤ length x.part.now) = let x = c.args in
+    parts-room (setup_of x.s []) x.part.now (length x.g.now) (length x.h.now) none in
     let x = c.args in
-    let z = none c.before.before.before.before.before.before.before.before.before in
-    let p = c.get_parts.ensures in record { answer = ap (λ (y : DealingRecord). given (y.dealing ∷ y.holder ∷ [])) c.dealing_at.ensures ∙ accepted _ _ z; row = written _ _ _ _ z p.0; column = written _ _ _ _ z (p.1 ∙ ap (λ k. parts_h k (setup_of x.s []) x.part.now) (whole c.before.before.before.before.before.before.before.before.before).1) }
+    let z = none in
+    let p = c.get_parts.ensures in record { answer = ap (λ (y : DealingRecord). given (y.dealing ∷ y.holder ∷ [])) c.dealing_at.ensures ∙ accepted _ _ z; row = written _ _ _ _ z p.0; column = written _ _ _ _ z (p.1 ∙ ap (λ k. parts_h k (setup_of x.s []) x.part.now) whole.1) }

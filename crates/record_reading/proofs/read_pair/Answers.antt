@@ -7,20 +7,19 @@ use Rattle.scheme.specs.Setup.{setup_of}
 use Rattle.record_layouts.specs.declared.PairRecord.{PairRecord}
 use Rattle.record_layouts.specs.Records.{read_rules, pair_values, pair_layout_of}
 use Rattle.record_layouts.proofs.Calls.{plain-read}
-use Rattle.record_reading.proofs.read_pair.Tie as tie
 use Rattle.record_reading.proofs.read_pair.Goals as goal
 
-is : (c : tie.After-pair_faults-refusal) → let x = c.args in
-    c.pair_faults-refusal.result ≡ refusal (read_rules (pair_layout_of x.mark) (setup_of x.s []) [] x.part.now)
-is c =
-    let x = c.args in
-    plain-read (pair_layout_of x.mark) (setup_of x.s []) x.part.now _ _ _ _
-    c.pair_at-x.ensures c.limits_refusal.ensures c.or_due-a.ensures c.pair_faults-refusal.ensures
-
 pub returns-then-refusal-ne0 : goal.returns-then-refusal-ne0
-returns-then-refusal-ne0 c = rw (← is c.before.before) (declined _ _ c.if-refusal-ne0.true)
+returns-then-refusal-ne0 c =
+    let is : let x = c.args in c.pair_faults-refusal.result ≡ refusal (read_rules (pair_layout_of x.mark) (setup_of x.s []) [] x.part.now) = let x = c.args in
+    plain-read (pair_layout_of x.mark) (setup_of x.s []) x.part.now _ _ _ _
+    c.pair_at-x.ensures c.limits_refusal.ensures c.or_due-a.ensures c.pair_faults-refusal.ensures in
+    rw (← is) (declined _ _ c.if-refusal-ne0.true)
 
 pub returns : goal.returns
 returns c =
+    let is : let x = c.args in c.pair_faults-refusal.result ≡ refusal (read_rules (pair_layout_of x.mark) (setup_of x.s []) [] x.part.now) = let x = c.args in
+    plain-read (pair_layout_of x.mark) (setup_of x.s []) x.part.now _ _ _ _
+    c.pair_at-x.ensures c.limits_refusal.ensures c.or_due-a.ensures c.pair_faults-refusal.ensures in
     ap (λ (y : PairRecord). given (pair_values y)) c.pair_at-x.ensures
-    ∙ accepted _ _ (sym (is c.before.before) ∙ c.if-refusal-ne0.false)
+    ∙ accepted _ _ (sym is ∙ c.if-refusal-ne0.false)

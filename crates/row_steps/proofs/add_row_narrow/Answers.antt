@@ -17,5 +17,5 @@ returns c =
     let x = c.args in
     let m = c.add_eights-c in
     let e : m.result + (x.width - m.result) ≡ x.width = omega (arith, m.ensures.0) in
-    add_parts x.p x.h x.t x.q x.width m.result (x.width - m.result) c.requires.kept (omega (arith, e)) x.a.now m.new.0 _ m.ensures.1 c.add_singly.ensures
+    add_parts x.p x.h x.t x.q x.width m.result (x.width - m.result) c.requires.kept (omega (arith, e)) x.a.now m.new.a _ m.ensures.1 c.add_singly.ensures
     ∙ ap (λ (n : ℕ). add_row x.p x.h x.t x.q n x.a.now) e

@@ -14,75 +14,107 @@ use Rattle.scheme.specs.Calls.{judge_set_rules}
 use Rattle.set_systems.specs.Inner.{SetTaken}
 use Rattle.set_systems.proofs.Members.{narrow}
 use Rattle.set_questions.proofs.Judge.{judge-taken, judged-row, judged-vector, judged-neither, back, buffer-judged, buffer-declined}
-use Rattle.set_questions.proofs.judge_set.Tie as tie
 use Rattle.set_questions.proofs.judge_set.Goals as goal
-
-abbrev after-row : tie.After-slice_known-3-1 → List ℕ
-after-row c = c.seek_row-row.new.1.1.1.1.0 ++ drop c.size-k.result c.clear.new.0
-
-abbrev setup : tie.Start → Setup
-setup b = setup_of b.args.s b.args.matrix.now
-
-none : (c : tie.Else-refusal-ne0) → refusal (judge_set_rules (setup c.before.before.before.before) c.args.set c.args.position c.args.out.now) ≡ 0
-none c = sym c.judge_set_refusal-refusal.ensures ∙ c.if-refusal-ne0.false
-
-ok : (c : tie.Else-refusal-ne0) → SetTaken (setup c.before.before.before.before) c.args.set × (length c.args.out.now ≡ 32) × (c.args.position < c.args.s.l)
-ok c = judge-taken (setup c.before.before.before.before) c.args.set c.args.position c.args.out.now (none c)
-
-zeros : (c : tie.After-size-k) → c.clear.new.0 ≡ replicate 32 0
-zeros c = c.clear.ensures ∙ ap (λ n. replicate n 0) (ok c.before.before.before.before.before).1
-
-row_room : (c : tie.After-size-k) → c.size-k.result ≤ length c.clear.new.0
-row_room c = omega (arith, ap length (zeros c), c.size-k.ensures.1)
-
-still-zeros : (c : tie.Else-row) → after-row c.before ≡ replicate 32 0
-still-zeros c = back c.size-k.result c.clear.last.0 _ (c.seek_row-row.ensures.none c.if-row.false).1 ∙ zeros c.before.before.before.before.before
-
-vector-room : (c : tie.After-dim-d) → c.dim-d.result ≤ length (after-row c.before.before)
-vector-room c = omega (arith, ap length (still-zeros c.before), narrow (ok c.before.before.before.before.before.before.before.before.before.before.before).0, c.dim-d.ensures.0)
 
 pub returns-then-refusal-ne0 : goal.returns-then-refusal-ne0
 returns-then-refusal-ne0 c =
-    let e = c.judge_set_refusal-refusal.ensures in record { result_value = rw (← e) (declined _ _ c.if-refusal-ne0.true); set_buffer = buffer-declined (setup c.before.before.before.before.before) c.args.set c.args.position c.args.out.now _ (rw e at c.if-refusal-ne0.true) }
+    let setup : Setup = setup_of c.args.s c.args.matrix.now in
+    let e = c.judge_set_refusal-refusal.ensures in record { result_value = rw (← e) (declined _ _ c.if-refusal-ne0.true); set_buffer = buffer-declined setup c.args.set c.args.position c.args.out.now _ (rw e at c.if-refusal-ne0.true) }
 
 pub slice_bounds-seek_row-end : goal.slice_bounds-seek_row-end
-slice_bounds-seek_row-end c = row_room c.before
+slice_bounds-seek_row-end c =
+    let setup : Setup = setup_of c.args.s c.args.matrix.now in
+    let none : refusal (judge_set_rules setup c.args.set c.args.position c.args.out.now) ≡ 0 = sym c.judge_set_refusal-refusal.ensures ∙ c.if-refusal-ne0.false in
+    let ok : SetTaken setup c.args.set × (length c.args.out.now ≡ 32) × (c.args.position < c.args.s.l) = judge-taken setup c.args.set c.args.position c.args.out.now none in
+    let zeros : c.clear.new.0 ≡ replicate 32 0 = c.clear.ensures ∙ ap (λ n. replicate n 0) ok.1 in
+    let row_room : c.size-k.result ≤ length c.clear.new.0 = omega (arith, ap length zeros, c.size-k.ensures.1) in
+    row_room
 
 pub slice_bounds-seek_row-end-2 : goal.slice_bounds-seek_row-end-2
-slice_bounds-seek_row-end-2 c = sym (length-take-le _ _ (row_room c.before.before))
+slice_bounds-seek_row-end-2 c =
+    let setup : Setup = setup_of c.args.s c.args.matrix.now in
+    let none : refusal (judge_set_rules setup c.args.set c.args.position c.args.out.now) ≡ 0 = sym c.judge_set_refusal-refusal.ensures ∙ c.if-refusal-ne0.false in
+    let ok : SetTaken setup c.args.set × (length c.args.out.now ≡ 32) × (c.args.position < c.args.s.l) = judge-taken setup c.args.set c.args.position c.args.out.now none in
+    let zeros : c.clear.new.0 ≡ replicate 32 0 = c.clear.ensures ∙ ap (λ n. replicate n 0) ok.1 in
+    let row_room : c.size-k.result ≤ length c.clear.new.0 = omega (arith, ap length zeros, c.size-k.ensures.1) in
+    sym (length-take-le _ _ row_room)
 
 pub seek_row-row-requires : goal.seek_row-row-requires
 seek_row-row-requires c =
-    let h = ok c.before.before.before.before.before.before.before in record { set_taken = h.0; q_lt_l = (h.2, length-take-le _ _ (row_room c.before.before) ∙ c.size-k.ensures.0) }
+    let setup : Setup = setup_of c.args.s c.args.matrix.now in
+    let none : refusal (judge_set_rules setup c.args.set c.args.position c.args.out.now) ≡ 0 = sym c.judge_set_refusal-refusal.ensures ∙ c.if-refusal-ne0.false in
+    let ok : SetTaken setup c.args.set × (length c.args.out.now ≡ 32) × (c.args.position < c.args.s.l) = judge-taken setup c.args.set c.args.position c.args.out.now none in
+    let zeros : c.clear.new.0 ≡ replicate 32 0 = c.clear.ensures ∙ ap (λ n. replicate n 0) ok.1 in
+    let row_room : c.size-k.result ≤ length c.clear.new.0 = omega (arith, ap length zeros, c.size-k.ensures.1) in
+    let h = ok in record { set_taken = h.0; q_lt_l = (h.2, length-take-le _ _ row_room ∙ c.size-k.ensures.0) }
 
 pub returns-then-row : goal.returns-then-row
 returns-then-row c =
-    let h = ok c.before.before.before.before.before.before.before.before.before.before.before in
-    let z = none c.before.before.before.before.before.before.before.before.before.before.before in
+    let setup : Setup = setup_of c.args.s c.args.matrix.now in
+    let none : refusal (judge_set_rules setup c.args.set c.args.position c.args.out.now) ≡ 0 = sym c.judge_set_refusal-refusal.ensures ∙ c.if-refusal-ne0.false in
+    let ok : SetTaken setup c.args.set × (length c.args.out.now ≡ 32) × (c.args.position < c.args.s.l) = judge-taken setup c.args.set c.args.position c.args.out.now none in
+    let zeros : c.clear.new.0 ≡ replicate 32 0 = c.clear.ensures ∙ ap (λ n. replicate n 0) ok.1 in
+    let h = ok in
+    let z = none in
     let r = c.seek_row-row.ensures in
-    let j = judged-row h.0 h.2 (zeros c.before.before.before.before.before.before) c.size-k.ensures.0 r.steps (r.found c.if-row.true) in record { result_value = rw z j.0; set_buffer = buffer-judged _ _ _ _ _ _ z j.1 }
+    let j = judged-row h.0 h.2 zeros c.size-k.ensures.0 r.steps (r.found c.if-row.true) in record { result_value = rw z j.0; set_buffer = buffer-judged _ _ _ _ _ _ z j.1 }
 
 pub slice_bounds-seek_vector-end : goal.slice_bounds-seek_vector-end
-slice_bounds-seek_vector-end c = vector-room c.before
+slice_bounds-seek_vector-end c =
+    let after-row : List ℕ = c.seek_row-row.new.1.1.1.1.0 ++ drop c.size-k.result c.clear.new.0 in
+    let setup : Setup = setup_of c.args.s c.args.matrix.now in
+    let none : refusal (judge_set_rules setup c.args.set c.args.position c.args.out.now) ≡ 0 = sym c.judge_set_refusal-refusal.ensures ∙ c.if-refusal-ne0.false in
+    let ok : SetTaken setup c.args.set × (length c.args.out.now ≡ 32) × (c.args.position < c.args.s.l) = judge-taken setup c.args.set c.args.position c.args.out.now none in
+    let zeros : c.clear.new.0 ≡ replicate 32 0 = c.clear.ensures ∙ ap (λ n. replicate n 0) ok.1 in
+    let still-zeros : after-row ≡ replicate 32 0 = back c.size-k.result c.clear.last.0 _ (c.seek_row-row.ensures.none c.if-row.false).1 ∙ zeros in
+    let vector-room : c.dim-d.result ≤ length after-row = omega (arith, ap length still-zeros, narrow ok.0, c.dim-d.ensures.0) in
+    vector-room
 
 pub slice_bounds-seek_vector-end-2 : goal.slice_bounds-seek_vector-end-2
-slice_bounds-seek_vector-end-2 c = sym (length-take-le _ _ (vector-room c.before.before))
+slice_bounds-seek_vector-end-2 c =
+    let after-row : List ℕ = c.seek_row-row.new.1.1.1.1.0 ++ drop c.size-k.result c.clear.new.0 in
+    let setup : Setup = setup_of c.args.s c.args.matrix.now in
+    let none : refusal (judge_set_rules setup c.args.set c.args.position c.args.out.now) ≡ 0 = sym c.judge_set_refusal-refusal.ensures ∙ c.if-refusal-ne0.false in
+    let ok : SetTaken setup c.args.set × (length c.args.out.now ≡ 32) × (c.args.position < c.args.s.l) = judge-taken setup c.args.set c.args.position c.args.out.now none in
+    let zeros : c.clear.new.0 ≡ replicate 32 0 = c.clear.ensures ∙ ap (λ n. replicate n 0) ok.1 in
+    let still-zeros : after-row ≡ replicate 32 0 = back c.size-k.result c.clear.last.0 _ (c.seek_row-row.ensures.none c.if-row.false).1 ∙ zeros in
+    let vector-room : c.dim-d.result ≤ length after-row = omega (arith, ap length still-zeros, narrow ok.0, c.dim-d.ensures.0) in
+    sym (length-take-le _ _ vector-room)
 
 pub seek_vector-requires : goal.seek_vector-requires
 seek_vector-requires c =
-    let h = ok c.before.before.before.before.before.before.before.before.before.before.before.before.before in record { set_taken = h.0; q_lt_l = (h.2, length-take-le _ _ (vector-room c.before.before) ∙ c.dim-d.ensures.0) }
+    let setup : Setup = setup_of c.args.s c.args.matrix.now in
+    let none : refusal (judge_set_rules setup c.args.set c.args.position c.args.out.now) ≡ 0 = sym c.judge_set_refusal-refusal.ensures ∙ c.if-refusal-ne0.false in
+    let ok : SetTaken setup c.args.set × (length c.args.out.now ≡ 32) × (c.args.position < c.args.s.l) = judge-taken setup c.args.set c.args.position c.args.out.now none in
+    let after-row : List ℕ = c.seek_row-row.new.1.1.1.1.0 ++ drop c.size-k.result c.clear.new.0 in
+    let zeros : c.clear.new.0 ≡ replicate 32 0 = c.clear.ensures ∙ ap (λ n. replicate n 0) ok.1 in
+    let still-zeros : after-row ≡ replicate 32 0 = back c.size-k.result c.clear.last.0 _ (c.seek_row-row.ensures.none c.if-row.false).1 ∙ zeros in
+    let vector-room : c.dim-d.result ≤ length after-row = omega (arith, ap length still-zeros, narrow ok.0, c.dim-d.ensures.0) in
+    let h = ok in record { set_taken = h.0; q_lt_l = (h.2, length-take-le _ _ vector-room ∙ c.dim-d.ensures.0) }
 
 pub returns-then-seek_vector : goal.returns-then-seek_vector
 returns-then-seek_vector c =
-    let h = ok c.before.before.before.before.before.before.before.before.before.before.before.before.before.before.before.before.before in
-    let z = none c.before.before.before.before.before.before.before.before.before.before.before.before.before.before.before.before.before in
+    let setup : Setup = setup_of c.args.s c.args.matrix.now in
+    let none : refusal (judge_set_rules setup c.args.set c.args.position c.args.out.now) ≡ 0 = sym c.judge_set_refusal-refusal.ensures ∙ c.if-refusal-ne0.false in
+    let ok : SetTaken setup c.args.set × (length c.args.out.now ≡ 32) × (c.args.position < c.args.s.l) = judge-taken setup c.args.set c.args.position c.args.out.now none in
+    let after-row : List ℕ = c.seek_row-row.new.1.1.1.1.0 ++ drop c.size-k.result c.clear.new.0 in
+    let zeros : c.clear.new.0 ≡ replicate 32 0 = c.clear.ensures ∙ ap (λ n. replicate n 0) ok.1 in
+    let still-zeros : after-row ≡ replicate 32 0 = back c.size-k.result c.clear.last.0 _ (c.seek_row-row.ensures.none c.if-row.false).1 ∙ zeros in
+    let h = ok in
+    let z = none in
     let r = c.seek_row-row.ensures in
-    let j = judged-vector h.0 h.2 (still-zeros c.before.before.before.before.before.before.before) c.dim-d.ensures.0 r.steps (c.seek_vector.ensures.found c.if-seek_vector.true) in record { result_value = rw z j.0; set_buffer = buffer-judged _ _ _ _ _ _ z j.1 }
+    let j = judged-vector h.0 h.2 still-zeros c.dim-d.ensures.0 r.steps (c.seek_vector.ensures.found c.if-seek_vector.true) in record { result_value = rw z j.0; set_buffer = buffer-judged _ _ _ _ _ _ z j.1 }
 
 pub returns : goal.returns
 returns c =
-    let h = ok c.before.before.before.before.before.before.before.before.before.before.before.before.before.before.before.before.before in
-    let z = none c.before.before.before.before.before.before.before.before.before.before.before.before.before.before.before.before.before in
+    let setup : Setup = setup_of c.args.s c.args.matrix.now in
+    let none : refusal (judge_set_rules setup c.args.set c.args.position c.args.out.now) ≡ 0 = sym c.judge_set_refusal-refusal.ensures ∙ c.if-refusal-ne0.false in
+    let ok : SetTaken setup c.args.set × (length c.args.out.now ≡ 32) × (c.args.position < c.args.s.l) = judge-taken setup c.args.set c.args.position c.args.out.now none in
+    let after-row : List ℕ = c.seek_row-row.new.1.1.1.1.0 ++ drop c.size-k.result c.clear.new.0 in
+    let zeros : c.clear.new.0 ≡ replicate 32 0 = c.clear.ensures ∙ ap (λ n. replicate n 0) ok.1 in
+    let still-zeros : after-row ≡ replicate 32 0 = back c.size-k.result c.clear.last.0 _ (c.seek_row-row.ensures.none c.if-row.false).1 ∙ zeros in
+    let h = ok in
+    let z = none in
     let n = c.seek_vector.ensures.none c.if-seek_vector.false in
     let r = c.seek_row-row.ensures in
-    let j = judged-neither h.0 h.2 (still-zeros c.before.before.before.before.before.before.before) r.steps (r.none c.if-row.false).0 n.0 in record { result_value = rw z j.0; set_buffer = buffer-judged _ _ _ _ _ _ z (rw (back c.dim-d.result (after-row c.before.before.before.before.before.before.before.before) _ n.1) j.1) }
+    let j = judged-neither h.0 h.2 still-zeros r.steps (r.none c.if-row.false).0 n.0 in record { result_value = rw z j.0; set_buffer = buffer-judged _ _ _ _ _ _ z (rw (back c.dim-d.result after-row _ n.1) j.1) }

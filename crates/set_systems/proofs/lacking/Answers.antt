@@ -9,13 +9,9 @@ use Rattle.base.specs.Search.{first}
 use Rattle.base.proofs.Search.{first-stop, first_step, first-end}
 use Rattle.elimination.specs.Inner.{buffers}
 use Rattle.read_off.specs.ReadOff.{flat_fixes}
-use Rattle.set_systems.proofs.lacking.Tie as tie
 use Rattle.set_systems.proofs.lacking.Goals as goal
 
 -- the position is not determined
-
-abbrev lacks : tie.At-loop-q goal.the-invariant-loop-q goal.the-decreases-loop-q → ℕ → Bool
-lacks c j = let x = c.args in not (flat_fixes x.rows x.width x.d (buffers x.a.now x.used.now) j)
 
 pub loop-q-init : goal.loop-q-init
 unfolding first
@@ -23,12 +19,15 @@ loop-q-init c = (search rules, rw sub-zero refl)
 
 pub returns-then-not-fixes : goal.returns-then-not-fixes
 returns-then-not-fixes c =
-    sym (first-stop (lacks c.before.before.before.before) c.loop-q.q _ (omega arith) (ap not (sym c.fixes.ensures) ∙ c.if-not-fixes.true)) ∙ c.loop-q.invariant.1
+    let lacks : ℕ → Bool = λ j. let x = c.args in not (flat_fixes x.rows x.width x.d (buffers x.a.now x.used.now) j) in
+    sym (first-stop lacks c.loop-q.q _ (omega arith) (ap not (sym c.fixes.ensures) ∙ c.if-not-fixes.true)) ∙ c.loop-q.invariant.1
 
 pub loop-q-preserved : goal.loop-q-preserved
 loop-q-preserved c =
-    (search rules, sym (first_step (lacks c.before.before.before.before) c.loop-q.q _ (omega arith) (ap not (sym c.fixes.ensures) ∙ c.if-not-fixes.false)) ∙ c.loop-q.invariant.1)
+    let lacks : ℕ → Bool = λ j. let x = c.args in not (flat_fixes x.rows x.width x.d (buffers x.a.now x.used.now) j) in
+    (search rules, sym (first_step lacks c.loop-q.q _ (omega arith) (ap not (sym c.fixes.ensures) ∙ c.if-not-fixes.false)) ∙ c.loop-q.invariant.1)
 
 pub returns : goal.returns
 returns c =
-    sym (first-end (lacks c.before.before) c.loop-q.q _ (omega arith)) ∙ c.loop-q.invariant.1
+    let lacks : ℕ → Bool = λ j. let x = c.args in not (flat_fixes x.rows x.width x.d (buffers x.a.now x.used.now) j) in
+    sym (first-end lacks c.loop-q.q _ (omega arith)) ∙ c.loop-q.invariant.1

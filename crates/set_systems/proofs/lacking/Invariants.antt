@@ -5,7 +5,6 @@ use mathlib.Core.Path.{◌≡◌}
 use Rattle.base.specs.Search.{first_from, first}
 use Rattle.elimination.specs.Inner.{buffers}
 use Rattle.read_off.specs.ReadOff.{flat_fixes}
-use Rattle.set_systems.proofs.lacking.Tie as tie
 use Rattle.set_systems.proofs.lacking.Given as goal
 
 abbrev pub invariant-loop-q : goal.invariant-loop-q

@@ -10,34 +10,37 @@ use Rattle.base.proofs.Matrix.{row_fits}
 use Rattle.base.proofs.Fill.{filled_none, length-laid}
 use Rattle.set_systems.proofs.Load.{loaded-whole}
 use Rattle.set_systems.proofs.Systems.{across-row}
-use Rattle.set_systems.proofs.load_across.Tie as tie
 use Rattle.set_systems.proofs.load_across.Goals as goal
 
 -- equation c fits
-
-fits : (c : tie.In-loop-c goal.the-invariant-loop-c goal.the-decreases-loop-c) → let x = c.args in
-    c.loop-c.c * (length x.members.now + 1) + (length x.members.now + 1) ≤ x.d * (length x.members.now + 1)
-fits c = let x = c.args in row_fits x.d (length x.members.now + 1) c.loop-c.c (omega arith)
 
 pub loop-c-init : goal.loop-c-init
 loop-c-init c = (search rules, refl, rw zero-mul (filled_none _ _))
 
 pub overflow_mul-t : goal.overflow_mul-t
-overflow_mul-t c = omega (arith, fits c.before)
+overflow_mul-t c =
+    let fits : let x = c.args in c.loop-c.c * (length x.members.now + 1) + (length x.members.now + 1) ≤ x.d * (length x.members.now + 1) = let x = c.args in row_fits x.d (length x.members.now + 1) c.loop-c.c (omega arith) in
+    omega (arith, fits)
 
 pub gather-requires : goal.gather-requires
-gather-requires c = record { members_in_bounds = (omega (arith, fits c.before.before), omega arith, omega arith); lie = c.requires.lie }
+gather-requires c =
+    let fits : let x = c.args in c.loop-c.c * (length x.members.now + 1) + (length x.members.now + 1) ≤ x.d * (length x.members.now + 1) = let x = c.args in row_fits x.d (length x.members.now + 1) c.loop-c.c (omega arith) in record { members_in_bounds = (omega (arith, fits), omega arith, omega arith); lie = c.requires.lie }
 
 pub overflow_add-a : goal.overflow_add-a
-overflow_add-a c = omega (arith, fits c.before.before.before.before.before.before)
+overflow_add-a c =
+    let fits : let x = c.args in c.loop-c.c * (length x.members.now + 1) + (length x.members.now + 1) ≤ x.d * (length x.members.now + 1) = let x = c.args in row_fits x.d (length x.members.now + 1) c.loop-c.c (omega arith) in
+    omega (arith, fits)
 
 pub offset_bounds-a-t : goal.offset_bounds-a-t
-offset_bounds-a-t c = omega (arith, fits c.before.before.before.before.before.before)
+offset_bounds-a-t c =
+    let fits : let x = c.args in c.loop-c.c * (length x.members.now + 1) + (length x.members.now + 1) ≤ x.d * (length x.members.now + 1) = let x = c.args in row_fits x.d (length x.members.now + 1) c.loop-c.c (omega arith) in
+    omega (arith, fits)
 
 pub bounds-a-t : goal.bounds-a-t
 bounds-a-t c =
+    let fits : let x = c.args in c.loop-c.c * (length x.members.now + 1) + (length x.members.now + 1) ≤ x.d * (length x.members.now + 1) = let x = c.args in row_fits x.d (length x.members.now + 1) c.loop-c.c (omega arith) in
     let x = c.args in let l = c.loop-c in
-    omega (arith, fits c.before.before.before.before.before.before, ap length c.gather.ensures, length-laid (λ j. entry x.d x.matrix.now (get_or x.members.now j 0) l.c) (l.c * (length x.members.now + 1)) (length x.members.now) l.a)
+    omega (arith, fits, ap length c.gather.ensures, length-laid (λ j. entry x.d x.matrix.now (get_or x.members.now j 0) l.c) (l.c * (length x.members.now + 1)) (length x.members.now) l.a)
 
 pub loop-c-preserved : goal.loop-c-preserved
 loop-c-preserved c =

@@ -5,7 +5,6 @@ use lib.ListN.{length}
 use Rattle.base.specs.Matrix.{flat}
 use Rattle.base.specs.Fill.{filled}
 use Rattle.scheme.specs.Sets.{across}
-use Rattle.set_systems.proofs.load_across.Tie as tie
 use Rattle.set_systems.proofs.load_across.Given as goal
 
 abbrev pub invariant-loop-c : goal.invariant-loop-c

@@ -10,35 +10,39 @@ use Rattle.base.proofs.Matrix.{row_fits}
 use Rattle.base.proofs.Fill.{filled_none, length-laid}
 use Rattle.set_systems.proofs.Load.{loaded-whole}
 use Rattle.set_systems.proofs.Systems.{aside-row}
-use Rattle.set_systems.proofs.load_aside.Tie as tie
 use Rattle.set_systems.proofs.load_aside.Goals as goal
 
 -- row i fits, and the row of the member lies inside
-
-row : (c : tie.In-loop-i goal.the-invariant-loop-i goal.the-decreases-loop-i) → let x = c.args in let i = c.loop-i.i in let d = x.l + x.e in
-    (i * d + d ≤ length x.members.now * d) × (get_or x.members.now i 0 * d + d ≤ length x.matrix.now)
-row c = (row_fits (length c.args.members.now) _ _ (omega arith), c.requires.lie.rows c.loop-i.i (omega arith))
 
 pub loop-i-init : goal.loop-i-init
 loop-i-init c = (search rules, refl, rw zero-mul (filled_none _ _))
 
 pub overflow_mul-t : goal.overflow_mul-t
-overflow_mul-t c = omega (arith, row c.before.before)
+overflow_mul-t c =
+    let row : let x = c.args in let i = c.loop-i.i in let d = x.l + x.e in (i * d + d ≤ length x.members.now * d) × (get_or x.members.now i 0 * d + d ≤ length x.matrix.now) = (row_fits (length c.args.members.now) _ _ (omega arith), c.requires.lie.rows c.loop-i.i (omega arith)) in
+    omega (arith, row)
 
 pub overflow_add-from : goal.overflow_add-from
-overflow_add-from c = omega (arith, row c.before.before.before)
+overflow_add-from c =
+    let row : let x = c.args in let i = c.loop-i.i in let d = x.l + x.e in (i * d + d ≤ length x.members.now * d) × (get_or x.members.now i 0 * d + d ≤ length x.matrix.now) = (row_fits (length c.args.members.now) _ _ (omega arith), c.requires.lie.rows c.loop-i.i (omega arith)) in
+    omega (arith, row)
 
 pub copy-requires : goal.copy-requires
-copy-requires c = omega (arith, row c.before.before.before)
+copy-requires c =
+    let row : let x = c.args in let i = c.loop-i.i in let d = x.l + x.e in (i * d + d ≤ length x.members.now * d) × (get_or x.members.now i 0 * d + d ≤ length x.matrix.now) = (row_fits (length c.args.members.now) _ _ (omega arith), c.requires.lie.rows c.loop-i.i (omega arith)) in
+    omega (arith, row)
 
 pub overflow_add-t : goal.overflow_add-t
-overflow_add-t c = omega (arith, row c.before.before.before.before.before.before.before)
+overflow_add-t c =
+    let row : let x = c.args in let i = c.loop-i.i in let d = x.l + x.e in (i * d + d ≤ length x.members.now * d) × (get_or x.members.now i 0 * d + d ≤ length x.matrix.now) = (row_fits (length c.args.members.now) _ _ (omega arith), c.requires.lie.rows c.loop-i.i (omega arith)) in
+    omega (arith, row)
 
 pub copy-requires-in-loop-i : goal.copy-requires-in-loop-i
 copy-requires-in-loop-i c =
+    let row : let x = c.args in let i = c.loop-i.i in let d = x.l + x.e in (i * d + d ≤ length x.members.now * d) × (get_or x.members.now i 0 * d + d ≤ length x.matrix.now) = (row_fits (length c.args.members.now) _ _ (omega arith), c.requires.lie.rows c.loop-i.i (omega arith)) in
     let x = c.args in let l = c.loop-i in
     let e = ap length c.copy.ensures ∙ length-laid (λ j. get_or x.matrix.now (c.row_start-from.result + x.l + j) 0) (l.i * (x.l + x.e)) x.e l.a in
-    (omega (arith, row c.before.before.before.before.before.before.before, e), omega (arith, row c.before.before.before.before.before.before.before))
+    (omega (arith, row, e), omega (arith, row))
 
 pub loop-i-preserved : goal.loop-i-preserved
 loop-i-preserved c =

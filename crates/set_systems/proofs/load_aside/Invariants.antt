@@ -5,7 +5,6 @@ use lib.ListN.{length}
 use Rattle.base.specs.Matrix.{flat}
 use Rattle.base.specs.Fill.{filled}
 use Rattle.set_systems.specs.Inner.{aside}
-use Rattle.set_systems.proofs.load_aside.Tie as tie
 use Rattle.set_systems.proofs.load_aside.Given as goal
 
 abbrev pub invariant-loop-i : goal.invariant-loop-i

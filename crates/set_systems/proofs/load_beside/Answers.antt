@@ -9,33 +9,37 @@ use Rattle.base.proofs.Matrix.{row_fits}
 use Rattle.base.proofs.Fill.{filled_none, length-laid}
 use Rattle.set_systems.proofs.Load.{loaded-whole}
 use Rattle.set_systems.proofs.Systems.{beside-row}
-use Rattle.set_systems.proofs.load_beside.Tie as tie
 use Rattle.set_systems.proofs.load_beside.Goals as goal
 
 -- row i fits
-
-fits : (c : tie.In-loop-i goal.the-invariant-loop-i goal.the-decreases-loop-i) → let x = c.args in
-    c.loop-i.i * (x.d + 1) + (x.d + 1) ≤ length x.members.now * (x.d + 1)
-fits c = let x = c.args in row_fits (length x.members.now) (x.d + 1) c.loop-i.i (omega arith)
 
 pub loop-i-init : goal.loop-i-init
 loop-i-init c = (search rules, refl, rw zero-mul (filled_none _ _))
 
 pub overflow_mul-t : goal.overflow_mul-t
-overflow_mul-t c = omega (arith, fits c.before.before)
+overflow_mul-t c =
+    let fits : let x = c.args in c.loop-i.i * (x.d + 1) + (x.d + 1) ≤ length x.members.now * (x.d + 1) = let x = c.args in row_fits (length x.members.now) (x.d + 1) c.loop-i.i (omega arith) in
+    omega (arith, fits)
 
 pub copy-requires : goal.copy-requires
-copy-requires c = omega (arith, fits c.before.before.before, c.requires.lie.rows c.loop-i.i (omega arith))
+copy-requires c =
+    let fits : let x = c.args in c.loop-i.i * (x.d + 1) + (x.d + 1) ≤ length x.members.now * (x.d + 1) = let x = c.args in row_fits (length x.members.now) (x.d + 1) c.loop-i.i (omega arith) in
+    omega (arith, fits, c.requires.lie.rows c.loop-i.i (omega arith))
 
 pub overflow_add-a : goal.overflow_add-a
-overflow_add-a c = omega (arith, fits c.before.before.before.before.before.before.before)
+overflow_add-a c =
+    let fits : let x = c.args in c.loop-i.i * (x.d + 1) + (x.d + 1) ≤ length x.members.now * (x.d + 1) = let x = c.args in row_fits (length x.members.now) (x.d + 1) c.loop-i.i (omega arith) in
+    omega (arith, fits)
 
 pub offset_bounds-a-t : goal.offset_bounds-a-t
-offset_bounds-a-t c = omega (arith, fits c.before.before.before.before.before.before.before)
+offset_bounds-a-t c =
+    let fits : let x = c.args in c.loop-i.i * (x.d + 1) + (x.d + 1) ≤ length x.members.now * (x.d + 1) = let x = c.args in row_fits (length x.members.now) (x.d + 1) c.loop-i.i (omega arith) in
+    omega (arith, fits)
 
 pub bounds-a-t : goal.bounds-a-t
 bounds-a-t c =
-    let x = c.args in omega (arith, fits c.before.before.before.before.before.before.before, ap length c.copy.ensures, length-laid (λ j. get_or x.matrix.now (c.row_start-from.result + j) 0) (c.loop-i.i * (x.d + 1)) x.d c.loop-i.a)
+    let fits : let x = c.args in c.loop-i.i * (x.d + 1) + (x.d + 1) ≤ length x.members.now * (x.d + 1) = let x = c.args in row_fits (length x.members.now) (x.d + 1) c.loop-i.i (omega arith) in
+    let x = c.args in omega (arith, fits, ap length c.copy.ensures, length-laid (λ j. get_or x.matrix.now (c.row_start-from.result + j) 0) (c.loop-i.i * (x.d + 1)) x.d c.loop-i.a)
 
 pub loop-i-preserved : goal.loop-i-preserved
 loop-i-preserved c =

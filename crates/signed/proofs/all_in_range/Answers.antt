@@ -14,13 +14,9 @@ use Rattle.base.specs.Search.{every}
 use Rattle.base.proofs.Search.{every-passed, every-failed}
 use Rattle.signed.specs.Integers.{integer_at}
 use Rattle.signed.specs.Corrections.{in_range, all_in_range}
-use Rattle.signed.proofs.all_in_range.Tie as tie
 use Rattle.signed.proofs.all_in_range.Goals as goal
 
 -- what was read is the list's entry, since it fits an i32
-
-read : (c : tie.After-x-1 goal.the-invariant-loop-i goal.the-decreases-loop-i) → to_z w32 (of_z w32 (integer_at c.args.s.now c.loop-i.i)) ≡ integer_at c.args.s.now c.loop-i.i
-read c = to_z-of_z {w = w32} (record { sfits = c.x-1.given })
 
 pub loop-i-init : goal.loop-i-init
 unfolding every
@@ -28,9 +24,10 @@ loop-i-init c = search rules
 
 pub loop-i-preserved : goal.loop-i-preserved
 loop-i-preserved c =
+    let read : to_z w32 (of_z w32 (integer_at c.args.s.now c.loop-i.i)) ≡ integer_at c.args.s.now c.loop-i.i = to_z-of_z {w = w32} (record { sfits = c.x-1.given }) in
     let x = c.args in
     let t : ℕ → Bool = λ k. in_range (integer_at x.s.now k) in
-    let e : c.in_range.result ≡ t c.loop-i.i = rw (← read c.before.before.before) c.in_range.ensures in (
+    let e : c.in_range.result ≡ t c.loop-i.i = rw (← read) c.in_range.ensures in (
       search rules,
       ⊎_elim (λ w. every-failed t c.loop-i.i c.if-not-in_range.over (sym e ∙ not-true _ w.0.true) w.1)
           (λ w. rw w.1 (every-passed t c.loop-i.i c.loop-i.over (sym e ∙ not-false _ w.0.false) c.loop-i.invariant.1))

@@ -6,7 +6,6 @@ use lib.ListN.{length}
 use Rattle.base.specs.Search.{every}
 use Rattle.signed.specs.Integers.{integer_at}
 use Rattle.signed.specs.Corrections.{in_range}
-use Rattle.signed.proofs.all_in_range.Tie as tie
 use Rattle.signed.proofs.all_in_range.Given as goal
 
 abbrev pub invariant-loop-i : goal.invariant-loop-i

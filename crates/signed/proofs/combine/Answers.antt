@@ -9,57 +9,61 @@ use Rattle.base.proofs.Rules.{declined}
 use Rattle.scheme.specs.Calls.{combine_call}
 use Rattle.set_systems.proofs.Members.{zeros, part-size}
 use Rattle.signed.proofs.Calls.{CombineOk, first_rules, combine-ok, combine-declined, as-combine, length-residues, front, front_fits}
-use Rattle.signed.proofs.combine.Tie as tie
 use Rattle.signed.proofs.combine.Goals as goal
-
-is : (c : tie.After-or_when-refusal) → let x = c.args in c.or_when-refusal.result ≡ refusal (first_rules x.p x.constants.now)
-is c = cc
-
-ok : (c : tie.Else-refusal-ne0) → let x = c.args in CombineOk x.p x.constants.now
-ok c = combine-ok _ _ (sym (is c.before) ∙ c.if-refusal-ne0.false)
 
 -- what the constants are held as is as long as they are
 
-size : (c : tie.After-hold_all) → length c.hold_all.new.1.0 ≡ length c.args.constants.now
-size c = ap length c.hold_all.ensures ∙ length-residues c.args.constants.now
-
 -- and stands at the start of the buffer
-
-abbrev buffer : tie.After-hold_all → List ℕ
-buffer c = c.hold_all.new.1.0 ++ drop (length c.args.constants.now) (zeros 64)
-
-begins : (c : tie.After-hold_all) → take (length c.args.constants.now) (buffer c) ≡ c.hold_all.new.1.0
-begins c = front _ c.hold_all.new.1.0 _ (size c)
-
-fits : (c : tie.After-hold_all) → length c.args.constants.now ≤ length (buffer c)
-fits c = front_fits _ c.hold_all.new.1.0 _ (size c)
 
 pub returns-then-refusal-ne0 : goal.returns-then-refusal-ne0
 returns-then-refusal-ne0 c =
+    let is : let x = c.args in c.or_when-refusal.result ≡ refusal (first_rules x.p x.constants.now) = cc in
     let x = c.args in
-    let e = is c.before.before in
+    let e = is in
     let d = combine-declined x.p x.constants.now x.shares.now x.rounds.now (λ z. c.if-refusal-ne0.true (e ∙ z)) in
     rw (e ∙ d) (declined _ _ (λ z. c.if-refusal-ne0.true (e ∙ d ∙ z)))
 
 pub slice_bounds-held-end : goal.slice_bounds-held-end
-slice_bounds-held-end c = (ok c.before).few
+slice_bounds-held-end c =
+    let is : let x = c.args in c.or_when-refusal.result ≡ refusal (first_rules x.p x.constants.now) = cc in
+    let ok : let x = c.args in CombineOk x.p x.constants.now = combine-ok _ _ (sym is ∙ c.if-refusal-ne0.false) in
+    ok.few
 
 pub slice_bounds-hold_all-end : goal.slice_bounds-hold_all-end
-slice_bounds-hold_all-end c = part-size _ 64 (ok c.before.before).few
+slice_bounds-hold_all-end c =
+    let is : let x = c.args in c.or_when-refusal.result ≡ refusal (first_rules x.p x.constants.now) = cc in
+    let ok : let x = c.args in CombineOk x.p x.constants.now = combine-ok _ _ (sym is ∙ c.if-refusal-ne0.false) in
+    part-size _ 64 ok.few
 
 pub hold_all-requires : goal.hold_all-requires
-hold_all-requires c = let k = ok c.before.before in record { integers_value = k.range; held_len = sym (part-size _ 64 k.few) }
+hold_all-requires c =
+    let is : let x = c.args in c.or_when-refusal.result ≡ refusal (first_rules x.p x.constants.now) = cc in
+    let ok : let x = c.args in CombineOk x.p x.constants.now = combine-ok _ _ (sym is ∙ c.if-refusal-ne0.false) in
+    let k = ok in record { integers_value = k.range; held_len = sym (part-size _ 64 k.few) }
 
 pub slice_bounds-held-end-2 : goal.slice_bounds-held-end-2
-slice_bounds-held-end-2 c = fits c.before.before
+slice_bounds-held-end-2 c =
+    let buffer : List ℕ = c.hold_all.new.1.0 ++ drop (length c.args.constants.now) (zeros 64) in
+    let size : length c.hold_all.new.1.0 ≡ length c.args.constants.now = ap length c.hold_all.ensures ∙ length-residues c.args.constants.now in
+    let fits : length c.args.constants.now ≤ length buffer = front_fits _ c.hold_all.new.1.0 _ size in
+    fits
 
 pub slice_bounds-combine-end : goal.slice_bounds-combine-end
-slice_bounds-combine-end c = sym (ap length (begins c.before.before.before) ∙ size c.before.before.before)
+slice_bounds-combine-end c =
+    let buffer : List ℕ = c.hold_all.new.1.0 ++ drop (length c.args.constants.now) (zeros 64) in
+    let size : length c.hold_all.new.1.0 ≡ length c.args.constants.now = ap length c.hold_all.ensures ∙ length-residues c.args.constants.now in
+    let begins : take (length c.args.constants.now) buffer ≡ c.hold_all.new.1.0 = front _ c.hold_all.new.1.0 _ size in
+    sym (ap length begins ∙ size)
 
 pub returns : goal.returns
 returns c =
+    let is : let x = c.args in c.or_when-refusal.result ≡ refusal (first_rules x.p x.constants.now) = cc in
+    let ok : let x = c.args in CombineOk x.p x.constants.now = combine-ok _ _ (sym is ∙ c.if-refusal-ne0.false) in
+    let buffer : List ℕ = c.hold_all.new.1.0 ++ drop (length c.args.constants.now) (zeros 64) in
+    let size : length c.hold_all.new.1.0 ≡ length c.args.constants.now = ap length c.hold_all.ensures ∙ length-residues c.args.constants.now in
+    let begins : take (length c.args.constants.now) buffer ≡ c.hold_all.new.1.0 = front _ c.hold_all.new.1.0 _ size in
     let x = c.args in
-    let k = ok c.before.before.before.before.before.before in
+    let k = ok in
     c.combine.ensures
-    ∙ ap (λ (l : List ℕ). combine_call x.p l x.shares.now x.rounds.now) (begins c.before.before.before.before ∙ c.hold_all.ensures)
+    ∙ ap (λ (l : List ℕ). combine_call x.p l x.shares.now x.rounds.now) (begins ∙ c.hold_all.ensures)
     ∙ sym (as-combine x.p x.constants.now x.shares.now x.rounds.now k.range k.field)

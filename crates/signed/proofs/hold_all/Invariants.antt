@@ -5,7 +5,6 @@ use lib.ListN.{length}
 use Rattle.base.specs.Fill.{filled}
 use Rattle.signed.specs.Integers.{integer_at}
 use Rattle.signed.specs.Corrections.{residue}
-use Rattle.signed.proofs.hold_all.Tie as tie
 use Rattle.signed.proofs.hold_all.Given as goal
 
 abbrev pub invariant-loop-i : goal.invariant-loop-i

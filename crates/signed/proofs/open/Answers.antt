@@ -15,75 +15,92 @@ use Rattle.scheme.specs.Calls.{open_call}
 use Rattle.signed.specs.Corrections.{corrections}
 use Rattle.signed.specs.Calls.{open_signed_call}
 use Rattle.signed.proofs.Calls.{nine, front, front_fits, as-open, left_out, Read, left-read}
-use Rattle.signed.proofs.open.Tie as tie
 use Rattle.signed.proofs.open.Goals as goal
-
-abbrev setup : tie.After-open-opened → Setup
-setup c = setup_of c.args.s c.args.matrix.now
-
-abbrev plain : tie.After-open-opened → List ℕ
-plain c = take c.room_for-room.result (zeros 9)
-
-abbrev left : tie.After-open-opened → List ℕ
-left c = c.open-opened.new.1.1.1.1.1.0
-
-room : (c : tie.After-room_for-room) → c.room_for-room.result ≤ 9
-room c = rw c.room_for-room.ensures (nine (length c.args.corrections.now))
-
-as_lent : (c : tie.After-open-opened) → let k = length c.args.corrections.now in length (plain c) ≡ pick (ltb k 9) k 9
-as_lent c = sym (part-size _ 9 (room c.before.before)) ∙ c.room_for-room.ensures
-
-same : (c : tie.After-open-opened) → let x = c.args in
-    open_call (setup c) x.set x.shares.now x.rounds.now (plain c) ≡ open_signed_call (setup c) x.set x.shares.now x.rounds.now x.corrections.now
-same c = let x = c.args in as-open (setup c) x.set x.shares.now x.rounds.now x.corrections.now (plain c) c.if-s-ne65521.false (as_lent c)
 
 -- where it gave the secrets
 
-gave : (c : tie.After-answered) → c.answered.result ≡ true → let x = c.args in
-    Read (setup c.before.before) x.set x.shares.now x.rounds.now x.corrections.now (plain c.before.before) c.if-s-ne65521.false (as_lent c.before.before)
-gave c q =
-    let x = c.args in
-    left-read (setup c.before.before) x.set x.shares.now x.rounds.now x.corrections.now (plain c.before.before) c.if-s-ne65521.false (as_lent c.before.before)
-    (ap (λ (a : Answer). a.answered) (sym c.open-opened.ensures.result_value) ∙ sym c.answered.ensures ∙ q)
-
 -- the secrets are as many as were lent room for, and stand at the start of the buffer
-
-size : (c : tie.Else-not-answered) → length (left c.before.before.before) ≡ c.room_for-room.result
-size c =
-    ap length c.open-opened.ensures.secrets_after ∙ (gave c.before (not-false _ c.if-not-answered.false)).size ∙ sym (part-size _ 9 (room c.before.before.before.before.before))
-
-abbrev buffer : tie.After-open-opened → List ℕ
-buffer c = left c ++ drop c.room_for-room.result (zeros 9)
-
-begins : (c : tie.Else-not-answered) → take c.room_for-room.result (buffer c.before.before.before) ≡ left c.before.before.before
-begins c = front _ (left c.before.before.before) _ (size c)
 
 pub returns-then-s-ne65521 : goal.returns-then-s-ne65521
 returns-then-s-ne65521 c =
     let e = ne_eqb c.args.s.p 65521 c.if-s-ne65521.true in record { result_value = rw e refl; corrections_after = rw e refl }
 
 pub slice_bounds-secrets-end : goal.slice_bounds-secrets-end
-slice_bounds-secrets-end c = room c.before
+slice_bounds-secrets-end c =
+    let room : c.room_for-room.result ≤ 9 = rw c.room_for-room.ensures (nine (length c.args.corrections.now)) in
+    room
 
 pub slice_bounds-open-end : goal.slice_bounds-open-end
-slice_bounds-open-end c = part-size _ 9 (room c.before.before)
+slice_bounds-open-end c =
+    let room : c.room_for-room.result ≤ 9 = rw c.room_for-room.ensures (nine (length c.args.corrections.now)) in
+    part-size _ 9 room
 
 pub returns-then-not-answered : goal.returns-then-not-answered
 returns-then-not-answered c =
+    let setup : Setup = setup_of c.args.s c.args.matrix.now in
+    let plain : List ℕ = take c.room_for-room.result (zeros 9) in
+    let room : c.room_for-room.result ≤ 9 = rw c.room_for-room.ensures (nine (length c.args.corrections.now)) in
+    let as_lent : let k = length c.args.corrections.now in length plain ≡ pick (ltb k 9) k 9 = sym (part-size _ 9 room) ∙ c.room_for-room.ensures in
+    let same : let x = c.args in open_call setup x.set x.shares.now x.rounds.now plain ≡ open_signed_call setup x.set x.shares.now x.rounds.now x.corrections.now = let x = c.args in as-open setup x.set x.shares.now x.rounds.now x.corrections.now plain c.if-s-ne65521.false as_lent in
     let x = c.args in
-    let q = ap (λ (a : Answer). a.answered) (sym c.open-opened.ensures.result_value) ∙ sym c.answered.ensures ∙ not-true _ c.if-not-answered.true in record { result_value = c.open-opened.ensures.result_value ∙ same c.before.before.before.before; corrections_after = left_out (setup c.before.before.before.before) x.set x.shares.now x.rounds.now x.corrections.now (plain c.before.before.before.before) c.if-s-ne65521.false (as_lent c.before.before.before.before) q }
+    let q = ap (λ (a : Answer). a.answered) (sym c.open-opened.ensures.result_value) ∙ sym c.answered.ensures ∙ not-true _ c.if-not-answered.true in record { result_value = c.open-opened.ensures.result_value ∙ same; corrections_after = left_out setup x.set x.shares.now x.rounds.now x.corrections.now plain c.if-s-ne65521.false as_lent q }
 
 pub slice_bounds-secrets-end-2 : goal.slice_bounds-secrets-end-2
-slice_bounds-secrets-end-2 c = front_fits _ (left c.before.before.before.before) _ (size c.before)
+slice_bounds-secrets-end-2 c =
+    let left : List ℕ = c.open-opened.new.1.1.1.1.1.0 in
+    let setup : Setup = setup_of c.args.s c.args.matrix.now in
+    let plain : List ℕ = take c.room_for-room.result (zeros 9) in
+    let room : c.room_for-room.result ≤ 9 = rw c.room_for-room.ensures (nine (length c.args.corrections.now)) in
+    let as_lent : let k = length c.args.corrections.now in length plain ≡ pick (ltb k 9) k 9 = sym (part-size _ 9 room) ∙ c.room_for-room.ensures in
+    let gave : c.answered.result ≡ true → let x = c.args in Read setup x.set x.shares.now x.rounds.now x.corrections.now plain c.if-s-ne65521.false as_lent = λ q. let x = c.args in
+    left-read setup x.set x.shares.now x.rounds.now x.corrections.now plain c.if-s-ne65521.false as_lent
+    (ap (λ (a : Answer). a.answered) (sym c.open-opened.ensures.result_value) ∙ sym c.answered.ensures ∙ q) in
+    let size : length left ≡ c.room_for-room.result = ap length c.open-opened.ensures.secrets_after ∙ (gave (not-false _ c.if-not-answered.false)).size ∙ sym (part-size _ 9 room) in
+    front_fits _ left _ size
 
 pub slice_bounds-read_all-end : goal.slice_bounds-read_all-end
-slice_bounds-read_all-end c = sym (ap length (begins c.before.before) ∙ size c.before.before)
+slice_bounds-read_all-end c =
+    let left : List ℕ = c.open-opened.new.1.1.1.1.1.0 in
+    let buffer : List ℕ = left ++ drop c.room_for-room.result (zeros 9) in
+    let setup : Setup = setup_of c.args.s c.args.matrix.now in
+    let plain : List ℕ = take c.room_for-room.result (zeros 9) in
+    let room : c.room_for-room.result ≤ 9 = rw c.room_for-room.ensures (nine (length c.args.corrections.now)) in
+    let as_lent : let k = length c.args.corrections.now in length plain ≡ pick (ltb k 9) k 9 = sym (part-size _ 9 room) ∙ c.room_for-room.ensures in
+    let gave : c.answered.result ≡ true → let x = c.args in Read setup x.set x.shares.now x.rounds.now x.corrections.now plain c.if-s-ne65521.false as_lent = λ q. let x = c.args in
+    left-read setup x.set x.shares.now x.rounds.now x.corrections.now plain c.if-s-ne65521.false as_lent
+    (ap (λ (a : Answer). a.answered) (sym c.open-opened.ensures.result_value) ∙ sym c.answered.ensures ∙ q) in
+    let size : length left ≡ c.room_for-room.result = ap length c.open-opened.ensures.secrets_after ∙ (gave (not-false _ c.if-not-answered.false)).size ∙ sym (part-size _ 9 room) in
+    let begins : take c.room_for-room.result buffer ≡ left = front _ left _ size in
+    sym (ap length begins ∙ size)
 
 pub read_all-requires : goal.read_all-requires
 read_all-requires c =
-    let g = gave c.before.before.before.before (not-false _ c.if-not-answered.false) in
-    let l = begins c.before.before.before ∙ c.open-opened.ensures.secrets_after in record { held_value = rw l g.below; integers_len = rw l g.room }
+    let setup : Setup = setup_of c.args.s c.args.matrix.now in
+    let plain : List ℕ = take c.room_for-room.result (zeros 9) in
+    let room : c.room_for-room.result ≤ 9 = rw c.room_for-room.ensures (nine (length c.args.corrections.now)) in
+    let as_lent : let k = length c.args.corrections.now in length plain ≡ pick (ltb k 9) k 9 = sym (part-size _ 9 room) ∙ c.room_for-room.ensures in
+    let gave : c.answered.result ≡ true → let x = c.args in Read setup x.set x.shares.now x.rounds.now x.corrections.now plain c.if-s-ne65521.false as_lent = λ q. let x = c.args in
+    left-read setup x.set x.shares.now x.rounds.now x.corrections.now plain c.if-s-ne65521.false as_lent
+    (ap (λ (a : Answer). a.answered) (sym c.open-opened.ensures.result_value) ∙ sym c.answered.ensures ∙ q) in
+    let left : List ℕ = c.open-opened.new.1.1.1.1.1.0 in
+    let buffer : List ℕ = left ++ drop c.room_for-room.result (zeros 9) in
+    let size : length left ≡ c.room_for-room.result = ap length c.open-opened.ensures.secrets_after ∙ (gave (not-false _ c.if-not-answered.false)).size ∙ sym (part-size _ 9 room) in
+    let begins : take c.room_for-room.result buffer ≡ left = front _ left _ size in
+    let g = gave (not-false _ c.if-not-answered.false) in
+    let l = begins ∙ c.open-opened.ensures.secrets_after in record { held_value = rw l g.below; integers_len = rw l g.room }
 
 pub returns : goal.returns
 returns c =
-    let g = gave c.before.before.before.before.before.before (not-false _ c.if-not-answered.false) in record { result_value = c.open-opened.ensures.result_value ∙ same c.before.before.before.before.before.before.before.before; corrections_after = c.read_all.ensures ∙ ap corrections (begins c.before.before.before.before.before ∙ c.open-opened.ensures.secrets_after) ∙ g.is }
+    let setup : Setup = setup_of c.args.s c.args.matrix.now in
+    let plain : List ℕ = take c.room_for-room.result (zeros 9) in
+    let room : c.room_for-room.result ≤ 9 = rw c.room_for-room.ensures (nine (length c.args.corrections.now)) in
+    let as_lent : let k = length c.args.corrections.now in length plain ≡ pick (ltb k 9) k 9 = sym (part-size _ 9 room) ∙ c.room_for-room.ensures in
+    let gave : c.answered.result ≡ true → let x = c.args in Read setup x.set x.shares.now x.rounds.now x.corrections.now plain c.if-s-ne65521.false as_lent = λ q. let x = c.args in
+    left-read setup x.set x.shares.now x.rounds.now x.corrections.now plain c.if-s-ne65521.false as_lent
+    (ap (λ (a : Answer). a.answered) (sym c.open-opened.ensures.result_value) ∙ sym c.answered.ensures ∙ q) in
+    let same : let x = c.args in open_call setup x.set x.shares.now x.rounds.now plain ≡ open_signed_call setup x.set x.shares.now x.rounds.now x.corrections.now = let x = c.args in as-open setup x.set x.shares.now x.rounds.now x.corrections.now plain c.if-s-ne65521.false as_lent in
+    let left : List ℕ = c.open-opened.new.1.1.1.1.1.0 in
+    let buffer : List ℕ = left ++ drop c.room_for-room.result (zeros 9) in
+    let size : length left ≡ c.room_for-room.result = ap length c.open-opened.ensures.secrets_after ∙ (gave (not-false _ c.if-not-answered.false)).size ∙ sym (part-size _ 9 room) in
+    let begins : take c.room_for-room.result buffer ≡ left = front _ left _ size in
+    let g = gave (not-false _ c.if-not-answered.false) in record { result_value = c.open-opened.ensures.result_value ∙ same; corrections_after = c.read_all.ensures ∙ ap corrections (begins ∙ c.open-opened.ensures.secrets_after) ∙ g.is }

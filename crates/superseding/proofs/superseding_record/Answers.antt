@@ -5,26 +5,23 @@ use Rattle.base.specs.Rules.{given}
 use Rattle.scheme.specs.Setup.{setup_of}
 use Rattle.record_layouts.specs.Records.{read_share_call, share_values, paper_share_read}
 use Rattle.superseding.proofs.Reading.{first-refused, second-refused, both-given}
-use Rattle.superseding.proofs.superseding_record.Tie as tie
 use Rattle.superseding.proofs.superseding_record.Goals as goal
-
-first_read : (c : tie.In-Is-2) → let x = c.args in
-    given (share_values c.in-Is.x) ≡ read_share_call (setup_of x.s []) x.first.now
-first_read c = ap paper_share_read (sym c.in-Is.is) ∙ c.read_share.ensures
 
 pub returns-in-Is-read_share : goal.returns-in-Is-read_share
 returns-in-Is-read_share c =
+    let first_read : let x = c.args in given (share_values c.in-Is.x) ≡ read_share_call (setup_of x.s []) x.first.now = ap paper_share_read (sym c.in-Is.is) ∙ c.read_share.ensures in
     let x = c.args in
     c.newer.ensures
     ∙ both-given (setup_of x.s []) x.first.now x.second.now _ _
-    (first_read c.before.before.before.before.before.before.before)
+    first_read
     (ap paper_share_read (sym c.in-Is-read_share.is) ∙ c.read_share-in-Is.ensures)
 
 pub returns-in-Refused-read_share : goal.returns-in-Refused-read_share
 returns-in-Refused-read_share c =
+    let first_read : let x = c.args in given (share_values c.in-Is.x) ≡ read_share_call (setup_of x.s []) x.first.now = ap paper_share_read (sym c.in-Is.is) ∙ c.read_share.ensures in
     let x = c.args in
     second-refused (setup_of x.s []) x.first.now x.second.now _ _
-    (first_read c.before.before.before.before.before.before)
+    first_read
     (ap paper_share_read (sym c.in-Refused-read_share.is) ∙ c.read_share-in-Is.ensures)
 
 pub returns-in-Refused : goal.returns-in-Refused

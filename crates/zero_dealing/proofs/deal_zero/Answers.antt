@@ -12,20 +12,7 @@ use Rattle.scheme.specs.Calls.{deal_zero_rules}
 use Rattle.scheme.proofs.Calls.{DealZeroOk, deal_zero-ok}
 use Rattle.dealing.proofs.Parts.{few, held-g}
 use Rattle.zero_dealing.proofs.Parts.{zero_room, zero-array, refilled, column-length, last-part}
-use Rattle.zero_dealing.proofs.deal_zero.Tie as tie
 use Rattle.zero_dealing.proofs.deal_zero.Goals as goal
-
-abbrev setup : tie.Else-refusal-ne0 → Setup
-setup c = let x = c.args in setup_of x.s x.matrix.now
-
-clear : (c : tie.Else-refusal-ne0) → let x = c.args in refusal (deal_zero_rules (setup c) x.random.now x.holder x.g.now x.h.now) ≡ 0
-clear c =
-    let x = c.args in
-    ap (λ (k : ℕ). or_when k 5 (leb x.s.n x.holder)) (sym c.lent_refusal-lent.ensures) ∙ sym c.or_when-refusal.ensures ∙ c.if-refusal-ne0.false
-
-ok : (c : tie.Else-refusal-ne0) → let x = c.args in let S = setup c in
-    DealZeroOk S x.random.now × (length x.g.now ≡ dim S) × (length x.h.now ≡ S.e) × (x.holder < S.n)
-ok c = let x = c.args in deal_zero-ok (setup c) x.random.now x.holder x.g.now x.h.now (clear c)
 
 pub returns-then-refusal-ne0 : goal.returns-then-refusal-ne0
 returns-then-refusal-ne0 c =
@@ -34,20 +21,37 @@ returns-then-refusal-ne0 c =
     let r = c.or_when-refusal.ensures ∙ ap (λ (k : ℕ). or_when k 5 (leb x.s.n x.holder)) c.lent_refusal-lent.ensures in let both = rw (← r) (declined _ _ t, (unchanged _ _ _ t, unchanged _ _ _ t)) in record { result_value = both.0; g_after = both.1; h_after = both.2 }
 
 pub fill_zero-requires : goal.fill_zero-requires
-fill_zero-requires c = zero_room (setup c.before.before) _ (ok c.before.before).0
+fill_zero-requires c =
+    let setup : Setup = let x = c.args in setup_of x.s x.matrix.now in
+    let clear : let x = c.args in refusal (deal_zero_rules setup x.random.now x.holder x.g.now x.h.now) ≡ 0 = let x = c.args in
+    ap (λ (k : ℕ). or_when k 5 (leb x.s.n x.holder)) (sym c.lent_refusal-lent.ensures) ∙ sym c.or_when-refusal.ensures ∙ c.if-refusal-ne0.false in
+    let ok : let x = c.args in let S = setup in DealZeroOk S x.random.now × (length x.g.now ≡ dim S) × (length x.h.now ≡ S.e) × (x.holder < S.n) = let x = c.args in deal_zero-ok setup x.random.now x.holder x.g.now x.h.now clear in
+    zero_room setup _ ok.0
 
 pub slice_bounds-column-end : goal.slice_bounds-column-end
 slice_bounds-column-end c =
-    omega (arith, few (setup c.before.before.before.before.before.before) (ok c.before.before.before.before.before.before).0.setup)
+    let setup : Setup = let x = c.args in setup_of x.s x.matrix.now in
+    let clear : let x = c.args in refusal (deal_zero_rules setup x.random.now x.holder x.g.now x.h.now) ≡ 0 = let x = c.args in
+    ap (λ (k : ℕ). or_when k 5 (leb x.s.n x.holder)) (sym c.lent_refusal-lent.ensures) ∙ sym c.or_when-refusal.ensures ∙ c.if-refusal-ne0.false in
+    let ok : let x = c.args in let S = setup in DealZeroOk S x.random.now × (length x.g.now ≡ dim S) × (length x.h.now ≡ S.e) × (x.holder < S.n) = let x = c.args in deal_zero-ok setup x.random.now x.holder x.g.now x.h.now clear in
+    omega (arith, few setup ok.0.setup)
 
 pub slice_bounds-write_part-end-2 : goal.slice_bounds-write_part-end-2
 slice_bounds-write_part-end-2 c =
-    sym (length-take-le (dim (setup c.before.before.before.before.before.before.before)) (replicate 16 0) (few (setup c.before.before.before.before.before.before.before) (ok c.before.before.before.before.before.before.before).0.setup))
+    let setup : Setup = let x = c.args in setup_of x.s x.matrix.now in
+    let clear : let x = c.args in refusal (deal_zero_rules setup x.random.now x.holder x.g.now x.h.now) ≡ 0 = let x = c.args in
+    ap (λ (k : ℕ). or_when k 5 (leb x.s.n x.holder)) (sym c.lent_refusal-lent.ensures) ∙ sym c.or_when-refusal.ensures ∙ c.if-refusal-ne0.false in
+    let ok : let x = c.args in let S = setup in DealZeroOk S x.random.now × (length x.g.now ≡ dim S) × (length x.h.now ≡ S.e) × (x.holder < S.n) = let x = c.args in deal_zero-ok setup x.random.now x.holder x.g.now x.h.now clear in
+    sym (length-take-le (dim setup) (replicate 16 0) (few setup ok.0.setup))
 
 pub write_part-requires : goal.write_part-requires
 write_part-requires c =
-    let S = setup c.before.before.before.before.before.before.before in
-    let k = ok c.before.before.before.before.before.before.before in
+    let setup : Setup = let x = c.args in setup_of x.s x.matrix.now in
+    let clear : let x = c.args in refusal (deal_zero_rules setup x.random.now x.holder x.g.now x.h.now) ≡ 0 = let x = c.args in
+    ap (λ (k : ℕ). or_when k 5 (leb x.s.n x.holder)) (sym c.lent_refusal-lent.ensures) ∙ sym c.or_when-refusal.ensures ∙ c.if-refusal-ne0.false in
+    let ok : let x = c.args in let S = setup in DealZeroOk S x.random.now × (length x.g.now ≡ dim S) × (length x.h.now ≡ S.e) × (x.holder < S.n) = let x = c.args in deal_zero-ok setup x.random.now x.holder x.g.now x.h.now clear in
+    let S = setup in
+    let k = ok in
     record {
       setup = k.0.setup;
       square = (zero-array S _ k.0 _ c.fill_zero.ensures).long;
@@ -57,20 +61,32 @@ write_part-requires c =
 
 pub slice_bounds-copy-end : goal.slice_bounds-copy-end
 slice_bounds-copy-end c =
-    let S = setup c.before.before.before.before.before.before.before.before.before.before.before.before.before in
-    sym (refilled (dim S) 16 _ _ c.write_part.ensures.h_after (column-length S _ _) (few S (ok c.before.before.before.before.before.before.before.before.before.before.before.before.before).0.setup))
+    let setup : Setup = let x = c.args in setup_of x.s x.matrix.now in
+    let clear : let x = c.args in refusal (deal_zero_rules setup x.random.now x.holder x.g.now x.h.now) ≡ 0 = let x = c.args in
+    ap (λ (k : ℕ). or_when k 5 (leb x.s.n x.holder)) (sym c.lent_refusal-lent.ensures) ∙ sym c.or_when-refusal.ensures ∙ c.if-refusal-ne0.false in
+    let ok : let x = c.args in let S = setup in DealZeroOk S x.random.now × (length x.g.now ≡ dim S) × (length x.h.now ≡ S.e) × (x.holder < S.n) = let x = c.args in deal_zero-ok setup x.random.now x.holder x.g.now x.h.now clear in
+    let S = setup in
+    sym (refilled (dim S) 16 _ _ c.write_part.ensures.h_after (column-length S _ _) (few S ok.0.setup))
 
 pub copy-requires : goal.copy-requires
 copy-requires c =
-    let S = setup c.before.before.before.before.before.before.before.before.before.before.before.before.before in
-    let w = refilled (dim S) 16 _ _ c.write_part.ensures.h_after (column-length S _ _) (few S (ok c.before.before.before.before.before.before.before.before.before.before.before.before.before).0.setup) in
-    (omega (arith, (ok c.before.before.before.before.before.before.before.before.before.before.before.before.before).2), omega (arith, w, few S (ok c.before.before.before.before.before.before.before.before.before.before.before.before.before).0.setup))
+    let setup : Setup = let x = c.args in setup_of x.s x.matrix.now in
+    let clear : let x = c.args in refusal (deal_zero_rules setup x.random.now x.holder x.g.now x.h.now) ≡ 0 = let x = c.args in
+    ap (λ (k : ℕ). or_when k 5 (leb x.s.n x.holder)) (sym c.lent_refusal-lent.ensures) ∙ sym c.or_when-refusal.ensures ∙ c.if-refusal-ne0.false in
+    let ok : let x = c.args in let S = setup in DealZeroOk S x.random.now × (length x.g.now ≡ dim S) × (length x.h.now ≡ S.e) × (x.holder < S.n) = let x = c.args in deal_zero-ok setup x.random.now x.holder x.g.now x.h.now clear in
+    let S = setup in
+    let w = refilled (dim S) 16 _ _ c.write_part.ensures.h_after (column-length S _ _) (few S ok.0.setup) in
+    (omega (arith, ok.2), omega (arith, w, few S ok.0.setup))
 
 pub returns : goal.returns
 returns c =
+    let setup : Setup = let x = c.args in setup_of x.s x.matrix.now in
+    let clear : let x = c.args in refusal (deal_zero_rules setup x.random.now x.holder x.g.now x.h.now) ≡ 0 = let x = c.args in
+    ap (λ (k : ℕ). or_when k 5 (leb x.s.n x.holder)) (sym c.lent_refusal-lent.ensures) ∙ sym c.or_when-refusal.ensures ∙ c.if-refusal-ne0.false in
+    let ok : let x = c.args in let S = setup in DealZeroOk S x.random.now × (length x.g.now ≡ dim S) × (length x.h.now ≡ S.e) × (x.holder < S.n) = let x = c.args in deal_zero-ok setup x.random.now x.holder x.g.now x.h.now clear in
     let x = c.args in
-    let S = setup c.before.before.before.before.before.before.before.before.before.before.before.before.before.before.before.before in
-    let k = ok c.before.before.before.before.before.before.before.before.before.before.before.before.before.before.before.before in
+    let S = setup in
+    let k = ok in
     let F = zero-array S _ k.0 _ c.fill_zero.ensures in
     let W = c.write_part.ensures in
-    let C = c.copy.ensures in let both = rw (clear c.before.before.before.before.before.before.before.before.before.before.before.before.before.before.before.before) (refl, (W.0 ∙ held-g S _ _ F x.holder, C ∙ last-part S _ _ F x.holder _ _ x.h.now W.1 k.2)) in record { result_value = both.0; g_after = both.1; h_after = both.2 }
+    let C = c.copy.ensures in let both = rw clear (refl, (W.0 ∙ held-g S _ _ F x.holder, C ∙ last-part S _ _ F x.holder _ _ x.h.now W.1 k.2)) in record { result_value = both.0; g_after = both.1; h_after = both.2 }

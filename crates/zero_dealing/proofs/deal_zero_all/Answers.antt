@@ -15,26 +15,12 @@ use Rattle.scheme.specs.Calls.{deal_zero_all_rules}
 use Rattle.scheme.proofs.Calls.{DealZeroOk, deal_zero_all-ok}
 use Rattle.dealing.proofs.Parts.{all-g, all-h, all_room}
 use Rattle.zero_dealing.proofs.Parts.{zero_room, zero-array, refilled, columns-few, last-parts}
-use Rattle.zero_dealing.proofs.deal_zero_all.Tie as tie
 use Rattle.zero_dealing.proofs.deal_zero_all.Goals as goal
-
-abbrev setup : tie.Else-refusal-ne0 → Setup
-setup c = let x = c.args in setup_of x.s x.matrix.now
-
-clear : (c : tie.Else-refusal-ne0) → let x = c.args in refusal (deal_zero_all_rules (setup c) x.random.now x.gs.now x.hs.now) ≡ 0
-clear c = sym c.lent_refusal-refusal.ensures ∙ c.if-refusal-ne0.false
-
-ok : (c : tie.Else-refusal-ne0) → let x = c.args in let S = setup c in
-    DealZeroOk S x.random.now × (length x.gs.now ≡ S.n * dim S) × (length x.hs.now ≡ S.n * S.e)
-ok c = let x = c.args in deal_zero_all-ok (setup c) x.random.now x.gs.now x.hs.now (clear c)
 
 -- the part of the array that is lent for the columns
 
 abbrev zeros : Setup → List ℕ
 zeros S = take (S.n * dim S) (replicate 512 0)
-
-lent : (c : tie.Else-refusal-ne0) → length (zeros (setup c)) ≡ (setup c).n * dim (setup c)
-lent c = length-take-le ((setup c).n * dim (setup c)) (replicate 512 0) (columns-few (setup c) (ok c).0.setup)
 
 pub overflow_mul-len : goal.overflow_mul-len
 overflow_mul-len c =
@@ -51,52 +37,80 @@ returns-then-refusal-ne0 c =
     let t = c.if-refusal-ne0.true in let both = rw (← c.lent_refusal-refusal.ensures) (declined _ _ t, (unchanged _ _ _ t, unchanged _ _ _ t)) in record { result_value = both.0; gs_after = both.1; hs_after = both.2 }
 
 pub fill_zero-requires : goal.fill_zero-requires
-fill_zero-requires c = zero_room (setup c.before.before) _ (ok c.before.before).0
+fill_zero-requires c =
+    let setup : Setup = let x = c.args in setup_of x.s x.matrix.now in
+    let clear : let x = c.args in refusal (deal_zero_all_rules setup x.random.now x.gs.now x.hs.now) ≡ 0 = sym c.lent_refusal-refusal.ensures ∙ c.if-refusal-ne0.false in
+    let ok : let x = c.args in let S = setup in DealZeroOk S x.random.now × (length x.gs.now ≡ S.n * dim S) × (length x.hs.now ≡ S.n * S.e) = let x = c.args in deal_zero_all-ok setup x.random.now x.gs.now x.hs.now clear in
+    zero_room setup _ ok.0
 
 pub slice_bounds-columns-end : goal.slice_bounds-columns-end
 slice_bounds-columns-end c =
-    omega (arith, columns-few (setup c.before.before.before.before.before.before) (ok c.before.before.before.before.before.before).0.setup)
+    let setup : Setup = let x = c.args in setup_of x.s x.matrix.now in
+    let clear : let x = c.args in refusal (deal_zero_all_rules setup x.random.now x.gs.now x.hs.now) ≡ 0 = sym c.lent_refusal-refusal.ensures ∙ c.if-refusal-ne0.false in
+    let ok : let x = c.args in let S = setup in DealZeroOk S x.random.now × (length x.gs.now ≡ S.n * dim S) × (length x.hs.now ≡ S.n * S.e) = let x = c.args in deal_zero_all-ok setup x.random.now x.gs.now x.hs.now clear in
+    omega (arith, columns-few setup ok.0.setup)
 
 pub slice_bounds-write_all-end-2 : goal.slice_bounds-write_all-end-2
-slice_bounds-write_all-end-2 c = sym (lent c.before.before.before.before.before.before.before)
+slice_bounds-write_all-end-2 c =
+    let setup : Setup = let x = c.args in setup_of x.s x.matrix.now in
+    let clear : let x = c.args in refusal (deal_zero_all_rules setup x.random.now x.gs.now x.hs.now) ≡ 0 = sym c.lent_refusal-refusal.ensures ∙ c.if-refusal-ne0.false in
+    let ok : let x = c.args in let S = setup in DealZeroOk S x.random.now × (length x.gs.now ≡ S.n * dim S) × (length x.hs.now ≡ S.n * S.e) = let x = c.args in deal_zero_all-ok setup x.random.now x.gs.now x.hs.now clear in
+    let lent : length (zeros setup) ≡ setup.n * dim setup = length-take-le (setup.n * dim setup) (replicate 512 0) (columns-few setup ok.0.setup) in
+    sym lent
 
 pub write_all-requires : goal.write_all-requires
 write_all-requires c =
+    let setup : Setup = let x = c.args in setup_of x.s x.matrix.now in
+    let clear : let x = c.args in refusal (deal_zero_all_rules setup x.random.now x.gs.now x.hs.now) ≡ 0 = sym c.lent_refusal-refusal.ensures ∙ c.if-refusal-ne0.false in
+    let ok : let x = c.args in let S = setup in DealZeroOk S x.random.now × (length x.gs.now ≡ S.n * dim S) × (length x.hs.now ≡ S.n * S.e) = let x = c.args in deal_zero_all-ok setup x.random.now x.gs.now x.hs.now clear in
+    let lent : length (zeros setup) ≡ setup.n * dim setup = length-take-le (setup.n * dim setup) (replicate 512 0) (columns-few setup ok.0.setup) in
     let x = c.args in
-    let S = setup c.before.before.before.before.before.before.before in
-    let k = ok c.before.before.before.before.before.before.before in let both = all_room S _ _ (zero-array S _ k.0 _ c.fill_zero.ensures) k.0.setup x.gs.now (zeros S) k.1 (lent c.before.before.before.before.before.before.before) in record { all_room = both.0; below = both.1; below_2 = both.2; p_value = both.3 }
+    let S = setup in
+    let k = ok in let both = all_room S _ _ (zero-array S _ k.0 _ c.fill_zero.ensures) k.0.setup x.gs.now (zeros S) k.1 lent in record { all_room = both.0; below = both.1; below_2 = both.2; p_value = both.3 }
 
 pub slice_bounds-keep_last-end : goal.slice_bounds-keep_last-end
 slice_bounds-keep_last-end c =
-    let S = setup c.before.before.before.before.before.before.before.before.before.before.before.before in
-    let k = ok c.before.before.before.before.before.before.before.before.before.before.before.before in
+    let setup : Setup = let x = c.args in setup_of x.s x.matrix.now in
+    let clear : let x = c.args in refusal (deal_zero_all_rules setup x.random.now x.gs.now x.hs.now) ≡ 0 = sym c.lent_refusal-refusal.ensures ∙ c.if-refusal-ne0.false in
+    let ok : let x = c.args in let S = setup in DealZeroOk S x.random.now × (length x.gs.now ≡ S.n * dim S) × (length x.hs.now ≡ S.n * S.e) = let x = c.args in deal_zero_all-ok setup x.random.now x.gs.now x.hs.now clear in
+    let lent : length (zeros setup) ≡ setup.n * dim setup = length-take-le (setup.n * dim setup) (replicate 512 0) (columns-few setup ok.0.setup) in
+    let S = setup in
+    let k = ok in
     let F = zero-array S _ k.0 _ c.fill_zero.ensures in
-    sym (refilled (S.n * dim S) 512 _ _ (c.write_all.ensures.hs_after ∙ all-h S _ _ F (zeros S) (lent c.before.before.before.before.before.before.before.before.before.before.before.before)) (length-tab (S.n * dim S) _) (columns-few S k.0.setup))
+    sym (refilled (S.n * dim S) 512 _ _ (c.write_all.ensures.hs_after ∙ all-h S _ _ F (zeros S) lent) (length-tab (S.n * dim S) _) (columns-few S k.0.setup))
 
 pub keep_last-requires : goal.keep_last-requires
 keep_last-requires c =
-    let S = setup c.before.before.before.before.before.before.before.before.before.before.before.before.before in
-    let k = ok c.before.before.before.before.before.before.before.before.before.before.before.before.before in
+    let setup : Setup = let x = c.args in setup_of x.s x.matrix.now in
+    let clear : let x = c.args in refusal (deal_zero_all_rules setup x.random.now x.gs.now x.hs.now) ≡ 0 = sym c.lent_refusal-refusal.ensures ∙ c.if-refusal-ne0.false in
+    let ok : let x = c.args in let S = setup in DealZeroOk S x.random.now × (length x.gs.now ≡ S.n * dim S) × (length x.hs.now ≡ S.n * S.e) = let x = c.args in deal_zero_all-ok setup x.random.now x.gs.now x.hs.now clear in
+    let lent : length (zeros setup) ≡ setup.n * dim setup = length-take-le (setup.n * dim setup) (replicate 512 0) (columns-few setup ok.0.setup) in
+    let S = setup in
+    let k = ok in
     let L = k.0.setup.limits in
     let F = zero-array S _ k.0 _ c.fill_zero.ensures in
     record {
       small = (L.secret.1, L.random.1);
-      whole = refilled (S.n * dim S) 512 _ _ (c.write_all.ensures.hs_after ∙ all-h S _ _ F (zeros S) (lent c.before.before.before.before.before.before.before.before.before.before.before.before.before)) (length-tab (S.n * dim S) _) (columns-few S k.0.setup);
+      whole = refilled (S.n * dim S) 512 _ _ (c.write_all.ensures.hs_after ∙ all-h S _ _ F (zeros S) lent) (length-tab (S.n * dim S) _) (columns-few S k.0.setup);
       inside = columns-few S k.0.setup;
       fits = k.2;
     }
 
 pub returns : goal.returns
 returns c =
+    let setup : Setup = let x = c.args in setup_of x.s x.matrix.now in
+    let clear : let x = c.args in refusal (deal_zero_all_rules setup x.random.now x.gs.now x.hs.now) ≡ 0 = sym c.lent_refusal-refusal.ensures ∙ c.if-refusal-ne0.false in
+    let ok : let x = c.args in let S = setup in DealZeroOk S x.random.now × (length x.gs.now ≡ S.n * dim S) × (length x.hs.now ≡ S.n * S.e) = let x = c.args in deal_zero_all-ok setup x.random.now x.gs.now x.hs.now clear in
+    let lent : length (zeros setup) ≡ setup.n * dim setup = length-take-le (setup.n * dim setup) (replicate 512 0) (columns-few setup ok.0.setup) in
     let x = c.args in
-    let S = setup c.before.before.before.before.before.before.before.before.before.before.before.before.before.before.before.before in
-    let k = ok c.before.before.before.before.before.before.before.before.before.before.before.before.before.before.before.before in
+    let S = setup in
+    let k = ok in
     let F = zero-array S _ k.0 _ c.fill_zero.ensures in
     let W = c.write_all.ensures in
-    let K = c.keep_last.ensures in let both = rw (clear c.before.before.before.before.before.before.before.before.before.before.before.before.before.before.before.before) (
+    let K = c.keep_last.ensures in let both = rw clear (
       refl,
       (
         W.0 ∙ all-g S _ _ F x.gs.now k.1,
-        K ∙ last-parts S (dealt_zero S x.random.now) _ _ x.hs.now (W.1 ∙ all-h S _ _ F (zeros S) (lent c.before.before.before.before.before.before.before.before.before.before.before.before.before.before.before.before)) k.2,
+        K ∙ last-parts S (dealt_zero S x.random.now) _ _ x.hs.now (W.1 ∙ all-h S _ _ F (zeros S) lent) k.2,
       ),
     ) in record { result_value = both.0; gs_after = both.1; hs_after = both.2 }

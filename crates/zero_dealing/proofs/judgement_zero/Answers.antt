@@ -10,40 +10,46 @@ use Rattle.scheme.proofs.Calls.{JudgeZeroOk, judge-accepts, judge_zero-ok}
 use Rattle.scheme.proofs.Zero.{padded, padded-length, padded-ok, padded-judgement}
 use Rattle.dealing.proofs.Parts.{few}
 use Rattle.zero_dealing.proofs.Parts.{padded-is}
-use Rattle.zero_dealing.proofs.judgement_zero.Tie as tie
 use Rattle.zero_dealing.proofs.judgement_zero.Goals as goal
-
-abbrev setup : tie.Start → Setup
-setup s = setup_of s.args.s s.args.matrix.now
-
-ok : (s : tie.Start) → JudgeZeroOk (setup s) s.args.h.now s.args.values.now
-ok s = judge_zero-ok (setup s) s.args.h.now s.args.values.now s.requires
-
-small : (s : tie.Start) → dim (setup s) ≤ 16
-small s = few (setup s) (ok s).setup
-
-whole : (c : tie.After-copy) → take (dim (setup c.before.before.before.before.before.before.before)) c.copy.new.0 ≡ padded (setup c.before.before.before.before.before.before.before) c.args.h.now
-whole c = ap (take (dim (setup c.before.before.before.before.before.before.before))) c.copy.ensures ∙ padded-is (setup c.before.before.before.before.before.before.before) c.args.h.now (small c.before.before.before.before.before.before.before)
 
 pub copy-requires : goal.copy-requires
 copy-requires c =
-    (omega (arith, small c.before.before.before.before.before.before.before), omega (arith, (ok c.before.before.before.before.before.before.before).part.size))
+    let setup : Setup = setup_of c.args.s c.args.matrix.now in
+    let ok : JudgeZeroOk setup c.args.h.now c.args.values.now = judge_zero-ok setup c.args.h.now c.args.values.now c.requires in
+    let small : dim setup ≤ 16 = few setup ok.setup in
+    (omega (arith, small), omega (arith, ok.part.size))
 
 pub slice_bounds-column-end : goal.slice_bounds-column-end
-slice_bounds-column-end c = omega (arith, small c.before.before.before.before.before.before.before.before.before)
+slice_bounds-column-end c =
+    let setup : Setup = setup_of c.args.s c.args.matrix.now in
+    let ok : JudgeZeroOk setup c.args.h.now c.args.values.now = judge_zero-ok setup c.args.h.now c.args.values.now c.requires in
+    let small : dim setup ≤ 16 = few setup ok.setup in
+    omega (arith, small)
 
 pub slice_bounds-judgement-end : goal.slice_bounds-judgement-end
 slice_bounds-judgement-end c =
-    sym (ap length (whole c.before.before.before) ∙ padded-length (setup c.before.before.before.before.before.before.before.before.before.before) c.args.h.now)
+    let setup : Setup = setup_of c.args.s c.args.matrix.now in
+    let ok : JudgeZeroOk setup c.args.h.now c.args.values.now = judge_zero-ok setup c.args.h.now c.args.values.now c.requires in
+    let small : dim setup ≤ 16 = few setup ok.setup in
+    let whole : take (dim setup) c.copy.new.0 ≡ padded setup c.args.h.now = ap (take (dim setup)) c.copy.ensures ∙ padded-is setup c.args.h.now small in
+    sym (ap length whole ∙ padded-length setup c.args.h.now)
 
 pub judgement-requires : goal.judgement-requires
 judgement-requires c =
+    let setup : Setup = setup_of c.args.s c.args.matrix.now in
+    let ok : JudgeZeroOk setup c.args.h.now c.args.values.now = judge_zero-ok setup c.args.h.now c.args.values.now c.requires in
+    let small : dim setup ≤ 16 = few setup ok.setup in
+    let whole : take (dim setup) c.copy.new.0 ≡ padded setup c.args.h.now = ap (take (dim setup)) c.copy.ensures ∙ padded-is setup c.args.h.now small in
     let x = c.args in
-    rw (whole c.before.before.before) (judge-accepts (setup c.before.before.before.before.before.before.before.before.before.before) (padded (setup c.before.before.before.before.before.before.before.before.before.before) x.h.now) x.values.now (padded-ok (setup c.before.before.before.before.before.before.before.before.before.before) x.h.now x.values.now (ok c.before.before.before.before.before.before.before.before.before.before)))
+    rw whole (judge-accepts setup (padded setup x.h.now) x.values.now (padded-ok setup x.h.now x.values.now ok))
 
 pub returns : goal.returns
 returns c =
+    let setup : Setup = setup_of c.args.s c.args.matrix.now in
+    let ok : JudgeZeroOk setup c.args.h.now c.args.values.now = judge_zero-ok setup c.args.h.now c.args.values.now c.requires in
+    let small : dim setup ≤ 16 = few setup ok.setup in
+    let whole : take (dim setup) c.copy.new.0 ≡ padded setup c.args.h.now = ap (take (dim setup)) c.copy.ensures ∙ padded-is setup c.args.h.now small in
     let x = c.args in
     c.judgement.ensures
-    ∙ ap (λ (h : List ℕ). judgement_of (setup c.before.before.before.before.before.before.before.before.before.before.before) h x.values.now) (whole c.before.before.before.before)
-    ∙ padded-judgement (setup c.before.before.before.before.before.before.before.before.before.before.before) x.h.now x.values.now
+    ∙ ap (λ (h : List ℕ). judgement_of setup h x.values.now) whole
+    ∙ padded-judgement setup x.h.now x.values.now
