@@ -5,7 +5,7 @@ use Rattle.board_keys.proofs.Dealing.{lent-right, answered, left-g, left-h}
 use Rattle.board_keys.proofs.deal_key.Goals as goal
 
 pub returns-then-refusal-ne0 : goal.returns-then-refusal-ne0
-returns-then-refusal-ne0 c = let both = rw (← c.deal_key_refusal-refusal.ensures) (declined _ _ c.if-refusal-ne0.true, (unchanged _ _ _ c.if-refusal-ne0.true, unchanged _ _ _ c.if-refusal-ne0.true)) in record { result_value = both.0; gs_after = both.1; hs_after = both.2 }
+returns-then-refusal-ne0 c = record { result_value = rw (← c.deal_key_refusal-refusal.ensures) (declined _ _ c.if-refusal-ne0.true); gs_after = rw (← c.deal_key_refusal-refusal.ensures) (unchanged _ _ _ c.if-refusal-ne0.true); hs_after = rw (← c.deal_key_refusal-refusal.ensures) (unchanged _ _ _ c.if-refusal-ne0.true) }
 
 pub write_parts-requires : goal.write_parts-requires
 write_parts-requires c =
@@ -21,4 +21,4 @@ returns c =
     let gs = x.gs.now in
     let hs = x.hs.now in
     let is = c.deal_key_refusal-refusal.ensures in
-    let W = c.write_parts.ensures in record { result_value = answered key random gs hs _ is c.if-refusal-ne0.false; gs_after = left-g key random gs hs _ is c.if-refusal-ne0.false _ W.0; hs_after = left-h key random gs hs _ is c.if-refusal-ne0.false _ W.1 }
+    let W = c.write_parts.ensures in record { result_value = answered key random gs hs _ is c.if-refusal-ne0.false; gs_after = left-g key random gs hs _ is c.if-refusal-ne0.false _ W.gs_after; hs_after = left-h key random gs hs _ is c.if-refusal-ne0.false _ W.hs_after }

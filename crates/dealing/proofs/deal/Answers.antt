@@ -7,7 +7,7 @@ use Rattle.dealing.proofs.Parts.{dealt-room, dealt-array, held-g, held-h}
 use Rattle.dealing.proofs.deal.Goals as goal
 
 pub returns-then-refusal-ne0 : goal.returns-then-refusal-ne0
-returns-then-refusal-ne0 c = let both = rw (← c.deal_refusal-refusal.ensures) (declined _ _ c.if-refusal-ne0.true, (unchanged _ _ _ c.if-refusal-ne0.true, unchanged _ _ _ c.if-refusal-ne0.true)) in record { result_value = both.0; g_after = both.1; h_after = both.2 }
+returns-then-refusal-ne0 c = record { result_value = rw (← c.deal_refusal-refusal.ensures) (declined _ _ c.if-refusal-ne0.true); g_after = rw (← c.deal_refusal-refusal.ensures) (unchanged _ _ _ c.if-refusal-ne0.true); h_after = rw (← c.deal_refusal-refusal.ensures) (unchanged _ _ _ c.if-refusal-ne0.true) }
 
 pub fill_dealt-requires : goal.fill_dealt-requires
 fill_dealt-requires c =
@@ -32,4 +32,4 @@ returns c =
     let z = sym c.deal_refusal-refusal.ensures ∙ c.if-refusal-ne0.false in
     let ok = deal-ok S x.secrets.now x.random.now x.holder x.g.now x.h.now z in
     let F = dealt-array S _ _ _ ok.0 c.fill_dealt.ensures in
-    let W = c.write_part.ensures in let both = rw z (refl, (W.0 ∙ held-g S _ _ F x.holder, W.1 ∙ held-h S _ _ F x.holder)) in record { result_value = both.0; g_after = both.1; h_after = both.2 }
+    let W = c.write_part.ensures in record { result_value = rw z refl; g_after = rw z (W.g_after ∙ held-g S _ _ F x.holder); h_after = rw z (W.h_after ∙ held-h S _ _ F x.holder) }

@@ -7,7 +7,7 @@ use Rattle.dealing.proofs.Parts.{dealt-room, dealt-array, all-g, all-h, all_room
 use Rattle.dealing.proofs.deal_all.Goals as goal
 
 pub returns-then-refusal-ne0 : goal.returns-then-refusal-ne0
-returns-then-refusal-ne0 c = let both = rw (← c.deal_all_refusal-refusal.ensures) (declined _ _ c.if-refusal-ne0.true, (unchanged _ _ _ c.if-refusal-ne0.true, unchanged _ _ _ c.if-refusal-ne0.true)) in record { result_value = both.0; gs_after = both.1; hs_after = both.2 }
+returns-then-refusal-ne0 c = record { result_value = rw (← c.deal_all_refusal-refusal.ensures) (declined _ _ c.if-refusal-ne0.true); gs_after = rw (← c.deal_all_refusal-refusal.ensures) (unchanged _ _ _ c.if-refusal-ne0.true); hs_after = rw (← c.deal_all_refusal-refusal.ensures) (unchanged _ _ _ c.if-refusal-ne0.true) }
 
 pub fill_dealt-requires : goal.fill_dealt-requires
 fill_dealt-requires c =
@@ -33,4 +33,4 @@ returns c =
     let ok = deal_all-ok S x.secrets.now x.random.now x.gs.now x.hs.now z in
     let d = c.dim-d.ensures.0 in
     let F = dealt-array S _ _ _ ok.0 c.fill_dealt.ensures in
-    let W = c.write_all.ensures in let both = rw z (refl, (rw d at W.0 ∙ all-g S _ _ F x.gs.now ok.1, rw d at W.1 ∙ all-h S _ _ F x.hs.now ok.2)) in record { result_value = both.0; gs_after = both.1; hs_after = both.2 }
+    let W = c.write_all.ensures in record { result_value = rw z refl; gs_after = rw z (rw d at W.gs_after ∙ all-g S _ _ F x.gs.now ok.1); hs_after = rw z (rw d at W.hs_after ∙ all-h S _ _ F x.hs.now ok.2) }

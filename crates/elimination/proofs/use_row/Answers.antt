@@ -43,7 +43,7 @@ returns c =
     let scaled = c.scale_row in
     let cleared = c.clear_column in
     record {
-      state = used-is x.p x.rows x.width x.k x.col x.a.now x.used.now scaled.new.0 _ inverse.result mark.result
+      state = used-is x.p x.rows x.width x.k x.col x.a.now x.used.now scaled.new.a _ inverse.result mark.result
           inverse.ensures.is scaled.ensures cleared.ensures.matrix mark.ensures;
       steps = cleared.ensures.steps ∙ ap (λ (a : List ℕ). others x.rows x.k (λ i. entry x.width a i x.col)) scaled.ensures
           ∙ scaling-counts x.p x.width x.k x.col x.rows inverse.result x.a.now c.requires.k_lt_rows.1;

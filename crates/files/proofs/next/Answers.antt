@@ -9,4 +9,4 @@ slice_bounds-print-end c = sym (length-take-le _ _ (array-share-prefix-file «ba
 
 pub print-requires : goal.print-requires
 print-requires c =
-    omega (arith, c.if-len-gt4096.false, length-take-le c.word-len.result c.read-2.new.0 (array-share-prefix-file «bare»c.before))
+    omega (arith, c.if-len-gt4096.false, length-take-le c.word-len.result c.read-2.new.file (array-share-prefix-file «bare»c.before))

@@ -10,4 +10,4 @@ slice_bounds-print-end c = sym (length-take-le _ _ (array-share-prefix-file «ba
 pub print-requires : goal.print-requires
 print-requires c =
     let r = c.read-input in
-    omega (arith, r.ensures.0, r.ensures.1, c.buffer-file.ensures, length-take-le r.result.len r.new.0 r.ensures.0)
+    omega (arith, r.ensures.0, r.ensures.1, c.buffer-file.ensures, length-take-le r.result.len r.new.buffer r.ensures.0)

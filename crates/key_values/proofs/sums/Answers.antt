@@ -22,5 +22,5 @@ returns c =
     let second = c.dots-b.ensures in
     let first = c.dots-a.ensures in
     unfold tab tab_from in
-    rw (first.0, first.1.0, first.1.1.0, first.1.1.1, second.0, second.1.0, second.1.1.0, second.1.1.1)
-    (rw (third.0, third.1.0, third.1.1.0, third.1.1.1, d.0, d.1.0, d.1.1.0, d.1.1.1) refl)
+    rw (first.a_value, first.b_value, first.c_value, first.d_value, second.a_value, second.b_value, second.c_value, second.d_value)
+    (rw (third.a_value, third.b_value, third.c_value, third.d_value, d.a_value, d.b_value, d.c_value, d.d_value) refl)

@@ -27,4 +27,4 @@ returns c =
     let S = setup_of x.s [] in
     let y = parts x.x x.g.now x.h.now in
     let d = c.dim in
-    let e = c.write_parts.ensures in record { answer = e.0 ∙ answer-is S y x.out.now d.result d.ensures.0; buffer = e.1 ∙ left_is S y x.out.now d.result d.ensures.0 }
+    let e = c.write_parts.ensures in record { answer = e.answer ∙ answer-is S y x.out.now d.result d.ensures.0; buffer = e.buffer ∙ left_is S y x.out.now d.result d.ensures.0 }

@@ -16,7 +16,7 @@ returns-then-refusal-ne0 c =
     let x = c.args in
     let t = c.if-refusal-ne0.true in
     let lent = rw c.dim-d.ensures.0 at c.mapped_refusal-lent.ensures in
-    let r = c.or_when-refusal.ensures ∙ ap (λ k. or_when k 5 (leb x.s.n x.holder)) lent in let both = rw (← r) (declined _ _ t, same-buffers (unchanged _ _ _ t) (unchanged _ _ _ t) (unchanged _ _ _ t) (unchanged _ _ _ t)) in record { result_value = both.0; h2_after = both.1 }
+    let r = c.or_when-refusal.ensures ∙ ap (λ k. or_when k 5 (leb x.s.n x.holder)) lent in record { result_value = rw (← r) (declined _ _ t); h2_after = rw (← r) (same-buffers (unchanged _ _ _ t) (unchanged _ _ _ t) (unchanged _ _ _ t) (unchanged _ _ _ t)) }
 
 pub fill_dealt-requires : goal.fill_dealt-requires
 fill_dealt-requires c =
@@ -71,11 +71,8 @@ returns c =
     let F = dealt-array S _ _ _ ok.0.first c.fill_dealt.ensures in
     let F2 = mapped-array S _ _ _ _ _ _ _ ok.0 F c.fill_mapped.ensures in
     let W = c.write_part.ensures in
-    let W2 = c.write_part-2.ensures in let both = rw z (
-      refl,
-      same-buffers
-          (W.0 ∙ held-g S _ _ F x.holder)
-          (W.1 ∙ held-h S _ _ F x.holder)
-          (W2.0 ∙ held-g S _ _ F2 x.holder)
-          (W2.1 ∙ held-h S _ _ F2 x.holder),
-    ) in record { result_value = both.0; h2_after = both.1 }
+    let W2 = c.write_part-2.ensures in record { result_value = rw z refl; h2_after = rw z (same-buffers
+          (W.g_after ∙ held-g S _ _ F x.holder)
+          (W.h_after ∙ held-h S _ _ F x.holder)
+          (W2.g_after ∙ held-g S _ _ F2 x.holder)
+          (W2.h_after ∙ held-h S _ _ F2 x.holder)) }

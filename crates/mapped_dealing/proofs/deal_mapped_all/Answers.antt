@@ -11,7 +11,7 @@ use Rattle.mapped_dealing.proofs.deal_mapped_all.Goals as goal
 pub returns-then-refusal-ne0 : goal.returns-then-refusal-ne0
 returns-then-refusal-ne0 c =
     let t = c.if-refusal-ne0.true in
-    let r = rw c.matrix_len-size.ensures at c.mapped_refusal-refusal.ensures in let both = rw (← r) (declined _ _ t, same-buffers (unchanged _ _ _ t) (unchanged _ _ _ t) (unchanged _ _ _ t) (unchanged _ _ _ t)) in record { result_value = both.0; hs2_after = both.1 }
+    let r = rw c.matrix_len-size.ensures at c.mapped_refusal-refusal.ensures in record { result_value = rw (← r) (declined _ _ t); hs2_after = rw (← r) (same-buffers (unchanged _ _ _ t) (unchanged _ _ _ t) (unchanged _ _ _ t) (unchanged _ _ _ t)) }
 
 pub fill_dealt-requires : goal.fill_dealt-requires
 fill_dealt-requires c =
@@ -59,11 +59,8 @@ returns c =
     let F = dealt-array S _ _ _ ok.0.first c.fill_dealt.ensures in
     let F2 = mapped-array S _ _ _ _ _ _ _ ok.0 F c.fill_mapped.ensures in
     let W = c.write_all.ensures in
-    let W2 = c.write_all-2.ensures in let both = rw z (
-      refl,
-      same-buffers
-          (rw d at W.0 ∙ all-g S _ _ F x.gs.now ok.1.g)
-          (rw d at W.1 ∙ all-h S _ _ F x.hs.now ok.1.h)
-          (rw d at W2.0 ∙ all-g S _ _ F2 x.gs2.now ok.1.g2)
-          (rw d at W2.1 ∙ all-h S _ _ F2 x.hs2.now ok.1.h2),
-    ) in record { result_value = both.0; hs2_after = both.1 }
+    let W2 = c.write_all-2.ensures in record { result_value = rw z refl; hs2_after = rw z (same-buffers
+          (rw d at W.gs_after ∙ all-g S _ _ F x.gs.now ok.1.g)
+          (rw d at W.hs_after ∙ all-h S _ _ F x.hs.now ok.1.h)
+          (rw d at W2.gs_after ∙ all-g S _ _ F2 x.gs2.now ok.1.g2)
+          (rw d at W2.hs_after ∙ all-h S _ _ F2 x.hs2.now ok.1.h2)) }

@@ -78,18 +78,15 @@ loop-i-preserved c =
 
 pub write_each-requires : goal.write_each-requires
 write_each-requires c =
-    let l = c.loop-i in record {
-      all_room = record {
+    let l = c.loop-i in record { all_room = record {
         above = c.requires.all_room.above;
         small = c.requires.all_room.small;
         rows = c.requires.all_room.rows;
         square = c.requires.all_room.square;
         fits = (l.invariant.1 ∙ c.requires.all_room.fits.0, l.invariant.2 ∙ c.requires.all_room.fits.1);
-      };
-      first_le_n = (l.invariant.0, λ h. c.requires.below, λ h. c.requires.below_2);
-    }
+      }; first_le_n = (l.invariant.0, λ h. c.requires.below, λ h. c.requires.below_2) }
 
 pub returns : goal.returns
 returns c =
     let l = c.loop-i in
-    let w = c.write_each.ensures in record { gs_after = w.0 ∙ past-filled _ (entry_g _ _ _ _) l.i _ _ _ l.invariant.0 l.invariant.3; hs_after = w.1 ∙ past-filled _ (entry_h _ _ _ _) l.i _ _ _ l.invariant.0 l.invariant.4 }
+    let w = c.write_each.ensures in record { gs_after = w.gs_after ∙ past-filled _ (entry_g _ _ _ _) l.i _ _ _ l.invariant.0 l.invariant.3; hs_after = w.hs_after ∙ past-filled _ (entry_h _ _ _ _) l.i _ _ _ l.invariant.0 l.invariant.4 }

@@ -32,4 +32,4 @@ returns c =
     zero_room (setup_of x.s []) x.part.now (length x.g.now) (length x.h.now) none in
     let x = c.args in
     let z = none in
-    let p = c.get_parts.ensures in record { answer = ap (λ (y : DealingRecord). given (y.dealing ∷ y.holder ∷ [])) c.dealing_at.ensures ∙ accepted _ _ z; row = written _ _ _ _ z p.0; column = written _ _ _ _ z (p.1 ∙ ap (λ k. parts_h k (setup_of x.s []) x.part.now) whole.1) }
+    let p = c.get_parts.ensures in record { answer = ap (λ (y : DealingRecord). given (y.dealing ∷ y.holder ∷ [])) c.dealing_at.ensures ∙ accepted _ _ z; row = written _ _ _ _ z p.row; column = written _ _ _ _ z (p.column ∙ ap (λ k. parts_h k (setup_of x.s []) x.part.now) whole.1) }

@@ -26,8 +26,8 @@ slice_bounds-seek_row-end c =
     let setup : Setup = setup_of c.args.s c.args.matrix.now in
     let none : refusal (judge_set_rules setup c.args.set c.args.position c.args.out.now) ≡ 0 = sym c.judge_set_refusal-refusal.ensures ∙ c.if-refusal-ne0.false in
     let ok : SetTaken setup c.args.set × (length c.args.out.now ≡ 32) × (c.args.position < c.args.s.l) = judge-taken setup c.args.set c.args.position c.args.out.now none in
-    let zeros : c.clear.new.0 ≡ replicate 32 0 = c.clear.ensures ∙ ap (λ n. replicate n 0) ok.1 in
-    let row_room : c.size-k.result ≤ length c.clear.new.0 = omega (arith, ap length zeros, c.size-k.ensures.1) in
+    let zeros : c.clear.new.out ≡ replicate 32 0 = c.clear.ensures ∙ ap (λ n. replicate n 0) ok.1 in
+    let row_room : c.size-k.result ≤ length c.clear.new.out = omega (arith, ap length zeros, c.size-k.ensures.1) in
     row_room
 
 pub slice_bounds-seek_row-end-2 : goal.slice_bounds-seek_row-end-2
@@ -35,8 +35,8 @@ slice_bounds-seek_row-end-2 c =
     let setup : Setup = setup_of c.args.s c.args.matrix.now in
     let none : refusal (judge_set_rules setup c.args.set c.args.position c.args.out.now) ≡ 0 = sym c.judge_set_refusal-refusal.ensures ∙ c.if-refusal-ne0.false in
     let ok : SetTaken setup c.args.set × (length c.args.out.now ≡ 32) × (c.args.position < c.args.s.l) = judge-taken setup c.args.set c.args.position c.args.out.now none in
-    let zeros : c.clear.new.0 ≡ replicate 32 0 = c.clear.ensures ∙ ap (λ n. replicate n 0) ok.1 in
-    let row_room : c.size-k.result ≤ length c.clear.new.0 = omega (arith, ap length zeros, c.size-k.ensures.1) in
+    let zeros : c.clear.new.out ≡ replicate 32 0 = c.clear.ensures ∙ ap (λ n. replicate n 0) ok.1 in
+    let row_room : c.size-k.result ≤ length c.clear.new.out = omega (arith, ap length zeros, c.size-k.ensures.1) in
     sym (length-take-le _ _ row_room)
 
 pub seek_row-row-requires : goal.seek_row-row-requires
@@ -44,8 +44,8 @@ seek_row-row-requires c =
     let setup : Setup = setup_of c.args.s c.args.matrix.now in
     let none : refusal (judge_set_rules setup c.args.set c.args.position c.args.out.now) ≡ 0 = sym c.judge_set_refusal-refusal.ensures ∙ c.if-refusal-ne0.false in
     let ok : SetTaken setup c.args.set × (length c.args.out.now ≡ 32) × (c.args.position < c.args.s.l) = judge-taken setup c.args.set c.args.position c.args.out.now none in
-    let zeros : c.clear.new.0 ≡ replicate 32 0 = c.clear.ensures ∙ ap (λ n. replicate n 0) ok.1 in
-    let row_room : c.size-k.result ≤ length c.clear.new.0 = omega (arith, ap length zeros, c.size-k.ensures.1) in
+    let zeros : c.clear.new.out ≡ replicate 32 0 = c.clear.ensures ∙ ap (λ n. replicate n 0) ok.1 in
+    let row_room : c.size-k.result ≤ length c.clear.new.out = omega (arith, ap length zeros, c.size-k.ensures.1) in
     let h = ok in record { set_taken = h.0; q_lt_l = (h.2, length-take-le _ _ row_room ∙ c.size-k.ensures.0) }
 
 pub returns-then-row : goal.returns-then-row
@@ -53,7 +53,7 @@ returns-then-row c =
     let setup : Setup = setup_of c.args.s c.args.matrix.now in
     let none : refusal (judge_set_rules setup c.args.set c.args.position c.args.out.now) ≡ 0 = sym c.judge_set_refusal-refusal.ensures ∙ c.if-refusal-ne0.false in
     let ok : SetTaken setup c.args.set × (length c.args.out.now ≡ 32) × (c.args.position < c.args.s.l) = judge-taken setup c.args.set c.args.position c.args.out.now none in
-    let zeros : c.clear.new.0 ≡ replicate 32 0 = c.clear.ensures ∙ ap (λ n. replicate n 0) ok.1 in
+    let zeros : c.clear.new.out ≡ replicate 32 0 = c.clear.ensures ∙ ap (λ n. replicate n 0) ok.1 in
     let h = ok in
     let z = none in
     let r = c.seek_row-row.ensures in
@@ -61,23 +61,23 @@ returns-then-row c =
 
 pub slice_bounds-seek_vector-end : goal.slice_bounds-seek_vector-end
 slice_bounds-seek_vector-end c =
-    let after-row : List ℕ = c.seek_row-row.new.1.1.1.1.0 ++ drop c.size-k.result c.clear.new.0 in
+    let after-row : List ℕ = c.seek_row-row.new.out ++ drop c.size-k.result c.clear.new.out in
     let setup : Setup = setup_of c.args.s c.args.matrix.now in
     let none : refusal (judge_set_rules setup c.args.set c.args.position c.args.out.now) ≡ 0 = sym c.judge_set_refusal-refusal.ensures ∙ c.if-refusal-ne0.false in
     let ok : SetTaken setup c.args.set × (length c.args.out.now ≡ 32) × (c.args.position < c.args.s.l) = judge-taken setup c.args.set c.args.position c.args.out.now none in
-    let zeros : c.clear.new.0 ≡ replicate 32 0 = c.clear.ensures ∙ ap (λ n. replicate n 0) ok.1 in
-    let still-zeros : after-row ≡ replicate 32 0 = back c.size-k.result c.clear.last.0 _ (c.seek_row-row.ensures.none c.if-row.false).1 ∙ zeros in
+    let zeros : c.clear.new.out ≡ replicate 32 0 = c.clear.ensures ∙ ap (λ n. replicate n 0) ok.1 in
+    let still-zeros : after-row ≡ replicate 32 0 = back c.size-k.result c.clear.last.out _ (c.seek_row-row.ensures.none c.if-row.false).1 ∙ zeros in
     let vector-room : c.dim-d.result ≤ length after-row = omega (arith, ap length still-zeros, narrow ok.0, c.dim-d.ensures.0) in
     vector-room
 
 pub slice_bounds-seek_vector-end-2 : goal.slice_bounds-seek_vector-end-2
 slice_bounds-seek_vector-end-2 c =
-    let after-row : List ℕ = c.seek_row-row.new.1.1.1.1.0 ++ drop c.size-k.result c.clear.new.0 in
+    let after-row : List ℕ = c.seek_row-row.new.out ++ drop c.size-k.result c.clear.new.out in
     let setup : Setup = setup_of c.args.s c.args.matrix.now in
     let none : refusal (judge_set_rules setup c.args.set c.args.position c.args.out.now) ≡ 0 = sym c.judge_set_refusal-refusal.ensures ∙ c.if-refusal-ne0.false in
     let ok : SetTaken setup c.args.set × (length c.args.out.now ≡ 32) × (c.args.position < c.args.s.l) = judge-taken setup c.args.set c.args.position c.args.out.now none in
-    let zeros : c.clear.new.0 ≡ replicate 32 0 = c.clear.ensures ∙ ap (λ n. replicate n 0) ok.1 in
-    let still-zeros : after-row ≡ replicate 32 0 = back c.size-k.result c.clear.last.0 _ (c.seek_row-row.ensures.none c.if-row.false).1 ∙ zeros in
+    let zeros : c.clear.new.out ≡ replicate 32 0 = c.clear.ensures ∙ ap (λ n. replicate n 0) ok.1 in
+    let still-zeros : after-row ≡ replicate 32 0 = back c.size-k.result c.clear.last.out _ (c.seek_row-row.ensures.none c.if-row.false).1 ∙ zeros in
     let vector-room : c.dim-d.result ≤ length after-row = omega (arith, ap length still-zeros, narrow ok.0, c.dim-d.ensures.0) in
     sym (length-take-le _ _ vector-room)
 
@@ -86,9 +86,9 @@ seek_vector-requires c =
     let setup : Setup = setup_of c.args.s c.args.matrix.now in
     let none : refusal (judge_set_rules setup c.args.set c.args.position c.args.out.now) ≡ 0 = sym c.judge_set_refusal-refusal.ensures ∙ c.if-refusal-ne0.false in
     let ok : SetTaken setup c.args.set × (length c.args.out.now ≡ 32) × (c.args.position < c.args.s.l) = judge-taken setup c.args.set c.args.position c.args.out.now none in
-    let after-row : List ℕ = c.seek_row-row.new.1.1.1.1.0 ++ drop c.size-k.result c.clear.new.0 in
-    let zeros : c.clear.new.0 ≡ replicate 32 0 = c.clear.ensures ∙ ap (λ n. replicate n 0) ok.1 in
-    let still-zeros : after-row ≡ replicate 32 0 = back c.size-k.result c.clear.last.0 _ (c.seek_row-row.ensures.none c.if-row.false).1 ∙ zeros in
+    let after-row : List ℕ = c.seek_row-row.new.out ++ drop c.size-k.result c.clear.new.out in
+    let zeros : c.clear.new.out ≡ replicate 32 0 = c.clear.ensures ∙ ap (λ n. replicate n 0) ok.1 in
+    let still-zeros : after-row ≡ replicate 32 0 = back c.size-k.result c.clear.last.out _ (c.seek_row-row.ensures.none c.if-row.false).1 ∙ zeros in
     let vector-room : c.dim-d.result ≤ length after-row = omega (arith, ap length still-zeros, narrow ok.0, c.dim-d.ensures.0) in
     let h = ok in record { set_taken = h.0; q_lt_l = (h.2, length-take-le _ _ vector-room ∙ c.dim-d.ensures.0) }
 
@@ -97,9 +97,9 @@ returns-then-seek_vector c =
     let setup : Setup = setup_of c.args.s c.args.matrix.now in
     let none : refusal (judge_set_rules setup c.args.set c.args.position c.args.out.now) ≡ 0 = sym c.judge_set_refusal-refusal.ensures ∙ c.if-refusal-ne0.false in
     let ok : SetTaken setup c.args.set × (length c.args.out.now ≡ 32) × (c.args.position < c.args.s.l) = judge-taken setup c.args.set c.args.position c.args.out.now none in
-    let after-row : List ℕ = c.seek_row-row.new.1.1.1.1.0 ++ drop c.size-k.result c.clear.new.0 in
-    let zeros : c.clear.new.0 ≡ replicate 32 0 = c.clear.ensures ∙ ap (λ n. replicate n 0) ok.1 in
-    let still-zeros : after-row ≡ replicate 32 0 = back c.size-k.result c.clear.last.0 _ (c.seek_row-row.ensures.none c.if-row.false).1 ∙ zeros in
+    let after-row : List ℕ = c.seek_row-row.new.out ++ drop c.size-k.result c.clear.new.out in
+    let zeros : c.clear.new.out ≡ replicate 32 0 = c.clear.ensures ∙ ap (λ n. replicate n 0) ok.1 in
+    let still-zeros : after-row ≡ replicate 32 0 = back c.size-k.result c.clear.last.out _ (c.seek_row-row.ensures.none c.if-row.false).1 ∙ zeros in
     let h = ok in
     let z = none in
     let r = c.seek_row-row.ensures in
@@ -110,9 +110,9 @@ returns c =
     let setup : Setup = setup_of c.args.s c.args.matrix.now in
     let none : refusal (judge_set_rules setup c.args.set c.args.position c.args.out.now) ≡ 0 = sym c.judge_set_refusal-refusal.ensures ∙ c.if-refusal-ne0.false in
     let ok : SetTaken setup c.args.set × (length c.args.out.now ≡ 32) × (c.args.position < c.args.s.l) = judge-taken setup c.args.set c.args.position c.args.out.now none in
-    let after-row : List ℕ = c.seek_row-row.new.1.1.1.1.0 ++ drop c.size-k.result c.clear.new.0 in
-    let zeros : c.clear.new.0 ≡ replicate 32 0 = c.clear.ensures ∙ ap (λ n. replicate n 0) ok.1 in
-    let still-zeros : after-row ≡ replicate 32 0 = back c.size-k.result c.clear.last.0 _ (c.seek_row-row.ensures.none c.if-row.false).1 ∙ zeros in
+    let after-row : List ℕ = c.seek_row-row.new.out ++ drop c.size-k.result c.clear.new.out in
+    let zeros : c.clear.new.out ≡ replicate 32 0 = c.clear.ensures ∙ ap (λ n. replicate n 0) ok.1 in
+    let still-zeros : after-row ≡ replicate 32 0 = back c.size-k.result c.clear.last.out _ (c.seek_row-row.ensures.none c.if-row.false).1 ∙ zeros in
     let h = ok in
     let z = none in
     let n = c.seek_vector.ensures.none c.if-seek_vector.false in

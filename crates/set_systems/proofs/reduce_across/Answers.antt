@@ -12,7 +12,7 @@ pub slice_bounds-members-end : goal.slice_bounds-members-end
 slice_bounds-members-end c = c.walk-k.ensures.fits
 
 pub slice_bounds-load_across-end : goal.slice_bounds-load_across-end
-slice_bounds-load_across-end c = let w = c.walk-k in sym (length-take-le w.result w.new.1.0 w.ensures.fits)
+slice_bounds-load_across-end c = let w = c.walk-k in sym (length-take-le w.result w.new.out w.ensures.fits)
 
 pub load_across-requires : goal.load_across-requires
 load_across-requires c = let both = across-asks c.requires.set_taken c.walk-k.ensures c.dim-d.ensures.0 c.args.q c.requires.fresh in record { d_bound = both.0; lie = both.1 }

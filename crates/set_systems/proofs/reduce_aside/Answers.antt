@@ -10,7 +10,7 @@ pub slice_bounds-members-end : goal.slice_bounds-members-end
 slice_bounds-members-end c = c.walk-k.ensures.fits
 
 pub slice_bounds-load_aside-end : goal.slice_bounds-load_aside-end
-slice_bounds-load_aside-end c = let w = c.walk-k in sym (length-take-le w.result w.new.1.0 w.ensures.fits)
+slice_bounds-load_aside-end c = let w = c.walk-k in sym (length-take-le w.result w.new.out w.ensures.fits)
 
 pub load_aside-requires : goal.load_aside-requires
 load_aside-requires c = let both = aside-asks c.requires.set_taken c.walk-k.ensures c.requires.fresh in record { e_bound = both.0; lie = both.1 }

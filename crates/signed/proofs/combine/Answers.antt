@@ -43,25 +43,25 @@ hold_all-requires c =
 
 pub slice_bounds-held-end-2 : goal.slice_bounds-held-end-2
 slice_bounds-held-end-2 c =
-    let buffer : List ℕ = c.hold_all.new.1.0 ++ drop (length c.args.constants.now) (zeros 64) in
-    let size : length c.hold_all.new.1.0 ≡ length c.args.constants.now = ap length c.hold_all.ensures ∙ length-residues c.args.constants.now in
-    let fits : length c.args.constants.now ≤ length buffer = front_fits _ c.hold_all.new.1.0 _ size in
+    let buffer : List ℕ = c.hold_all.new.held ++ drop (length c.args.constants.now) (zeros 64) in
+    let size : length c.hold_all.new.held ≡ length c.args.constants.now = ap length c.hold_all.ensures ∙ length-residues c.args.constants.now in
+    let fits : length c.args.constants.now ≤ length buffer = front_fits _ c.hold_all.new.held _ size in
     fits
 
 pub slice_bounds-combine-end : goal.slice_bounds-combine-end
 slice_bounds-combine-end c =
-    let buffer : List ℕ = c.hold_all.new.1.0 ++ drop (length c.args.constants.now) (zeros 64) in
-    let size : length c.hold_all.new.1.0 ≡ length c.args.constants.now = ap length c.hold_all.ensures ∙ length-residues c.args.constants.now in
-    let begins : take (length c.args.constants.now) buffer ≡ c.hold_all.new.1.0 = front _ c.hold_all.new.1.0 _ size in
+    let buffer : List ℕ = c.hold_all.new.held ++ drop (length c.args.constants.now) (zeros 64) in
+    let size : length c.hold_all.new.held ≡ length c.args.constants.now = ap length c.hold_all.ensures ∙ length-residues c.args.constants.now in
+    let begins : take (length c.args.constants.now) buffer ≡ c.hold_all.new.held = front _ c.hold_all.new.held _ size in
     sym (ap length begins ∙ size)
 
 pub returns : goal.returns
 returns c =
     let is : let x = c.args in c.or_when-refusal.result ≡ refusal (first_rules x.p x.constants.now) = cc in
     let ok : let x = c.args in CombineOk x.p x.constants.now = combine-ok _ _ (sym is ∙ c.if-refusal-ne0.false) in
-    let buffer : List ℕ = c.hold_all.new.1.0 ++ drop (length c.args.constants.now) (zeros 64) in
-    let size : length c.hold_all.new.1.0 ≡ length c.args.constants.now = ap length c.hold_all.ensures ∙ length-residues c.args.constants.now in
-    let begins : take (length c.args.constants.now) buffer ≡ c.hold_all.new.1.0 = front _ c.hold_all.new.1.0 _ size in
+    let buffer : List ℕ = c.hold_all.new.held ++ drop (length c.args.constants.now) (zeros 64) in
+    let size : length c.hold_all.new.held ≡ length c.args.constants.now = ap length c.hold_all.ensures ∙ length-residues c.args.constants.now in
+    let begins : take (length c.args.constants.now) buffer ≡ c.hold_all.new.held = front _ c.hold_all.new.held _ size in
     let x = c.args in
     let k = ok in
     c.combine.ensures

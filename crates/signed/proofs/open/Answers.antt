@@ -47,7 +47,7 @@ returns-then-not-answered c =
 
 pub slice_bounds-secrets-end-2 : goal.slice_bounds-secrets-end-2
 slice_bounds-secrets-end-2 c =
-    let left : List ℕ = c.open-opened.new.1.1.1.1.1.0 in
+    let left : List ℕ = c.open-opened.new.secrets in
     let setup : Setup = setup_of c.args.s c.args.matrix.now in
     let plain : List ℕ = take c.room_for-room.result (zeros 9) in
     let room : c.room_for-room.result ≤ 9 = rw c.room_for-room.ensures (nine (length c.args.corrections.now)) in
@@ -60,7 +60,7 @@ slice_bounds-secrets-end-2 c =
 
 pub slice_bounds-read_all-end : goal.slice_bounds-read_all-end
 slice_bounds-read_all-end c =
-    let left : List ℕ = c.open-opened.new.1.1.1.1.1.0 in
+    let left : List ℕ = c.open-opened.new.secrets in
     let buffer : List ℕ = left ++ drop c.room_for-room.result (zeros 9) in
     let setup : Setup = setup_of c.args.s c.args.matrix.now in
     let plain : List ℕ = take c.room_for-room.result (zeros 9) in
@@ -82,7 +82,7 @@ read_all-requires c =
     let gave : c.answered.result ≡ true → let x = c.args in Read setup x.set x.shares.now x.rounds.now x.corrections.now plain c.if-s-ne65521.false as_lent = λ q. let x = c.args in
     left-read setup x.set x.shares.now x.rounds.now x.corrections.now plain c.if-s-ne65521.false as_lent
     (ap (λ (a : Answer). a.answered) (sym c.open-opened.ensures.result_value) ∙ sym c.answered.ensures ∙ q) in
-    let left : List ℕ = c.open-opened.new.1.1.1.1.1.0 in
+    let left : List ℕ = c.open-opened.new.secrets in
     let buffer : List ℕ = left ++ drop c.room_for-room.result (zeros 9) in
     let size : length left ≡ c.room_for-room.result = ap length c.open-opened.ensures.secrets_after ∙ (gave (not-false _ c.if-not-answered.false)).size ∙ sym (part-size _ 9 room) in
     let begins : take c.room_for-room.result buffer ≡ left = front _ left _ size in
@@ -99,7 +99,7 @@ returns c =
     left-read setup x.set x.shares.now x.rounds.now x.corrections.now plain c.if-s-ne65521.false as_lent
     (ap (λ (a : Answer). a.answered) (sym c.open-opened.ensures.result_value) ∙ sym c.answered.ensures ∙ q) in
     let same : let x = c.args in open_call setup x.set x.shares.now x.rounds.now plain ≡ open_signed_call setup x.set x.shares.now x.rounds.now x.corrections.now = let x = c.args in as-open setup x.set x.shares.now x.rounds.now x.corrections.now plain c.if-s-ne65521.false as_lent in
-    let left : List ℕ = c.open-opened.new.1.1.1.1.1.0 in
+    let left : List ℕ = c.open-opened.new.secrets in
     let buffer : List ℕ = left ++ drop c.room_for-room.result (zeros 9) in
     let size : length left ≡ c.room_for-room.result = ap length c.open-opened.ensures.secrets_after ∙ (gave (not-false _ c.if-not-answered.false)).size ∙ sym (part-size _ 9 room) in
     let begins : take c.room_for-room.result buffer ≡ left = front _ left _ size in

@@ -18,7 +18,7 @@ pub returns-then-refusal-ne0 : goal.returns-then-refusal-ne0
 returns-then-refusal-ne0 c =
     let x = c.args in
     let t = c.if-refusal-ne0.true in
-    let r = c.or_when-refusal.ensures ∙ ap (λ (k : ℕ). or_when k 5 (leb x.s.n x.holder)) c.lent_refusal-lent.ensures in let both = rw (← r) (declined _ _ t, (unchanged _ _ _ t, unchanged _ _ _ t)) in record { result_value = both.0; g_after = both.1; h_after = both.2 }
+    let r = c.or_when-refusal.ensures ∙ ap (λ (k : ℕ). or_when k 5 (leb x.s.n x.holder)) c.lent_refusal-lent.ensures in record { result_value = rw (← r) (declined _ _ t); g_after = rw (← r) (unchanged _ _ _ t); h_after = rw (← r) (unchanged _ _ _ t) }
 
 pub fill_zero-requires : goal.fill_zero-requires
 fill_zero-requires c =
@@ -89,4 +89,4 @@ returns c =
     let k = ok in
     let F = zero-array S _ k.0 _ c.fill_zero.ensures in
     let W = c.write_part.ensures in
-    let C = c.copy.ensures in let both = rw clear (refl, (W.0 ∙ held-g S _ _ F x.holder, C ∙ last-part S _ _ F x.holder _ _ x.h.now W.1 k.2)) in record { result_value = both.0; g_after = both.1; h_after = both.2 }
+    let C = c.copy.ensures in record { result_value = rw clear refl; g_after = rw clear (W.g_after ∙ held-g S _ _ F x.holder); h_after = rw clear (C ∙ last-part S _ _ F x.holder _ _ x.h.now W.h_after k.2) }

@@ -34,7 +34,7 @@ overflow_mul-n c =
 
 pub returns-then-refusal-ne0 : goal.returns-then-refusal-ne0
 returns-then-refusal-ne0 c =
-    let t = c.if-refusal-ne0.true in let both = rw (← c.lent_refusal-refusal.ensures) (declined _ _ t, (unchanged _ _ _ t, unchanged _ _ _ t)) in record { result_value = both.0; gs_after = both.1; hs_after = both.2 }
+    let t = c.if-refusal-ne0.true in record { result_value = rw (← c.lent_refusal-refusal.ensures) (declined _ _ t); gs_after = rw (← c.lent_refusal-refusal.ensures) (unchanged _ _ _ t); hs_after = rw (← c.lent_refusal-refusal.ensures) (unchanged _ _ _ t) }
 
 pub fill_zero-requires : goal.fill_zero-requires
 fill_zero-requires c =
@@ -107,10 +107,4 @@ returns c =
     let k = ok in
     let F = zero-array S _ k.0 _ c.fill_zero.ensures in
     let W = c.write_all.ensures in
-    let K = c.keep_last.ensures in let both = rw clear (
-      refl,
-      (
-        W.0 ∙ all-g S _ _ F x.gs.now k.1,
-        K ∙ last-parts S (dealt_zero S x.random.now) _ _ x.hs.now (W.1 ∙ all-h S _ _ F (zeros S) lent) k.2,
-      ),
-    ) in record { result_value = both.0; gs_after = both.1; hs_after = both.2 }
+    let K = c.keep_last.ensures in record { result_value = rw clear refl; gs_after = rw clear (W.gs_after ∙ all-g S _ _ F x.gs.now k.1); hs_after = rw clear (K ∙ last-parts S (dealt_zero S x.random.now) _ _ x.hs.now (W.hs_after ∙ all-h S _ _ F (zeros S) lent) k.2) }

@@ -31,7 +31,7 @@ slice_bounds-judgement-end c =
     let setup : Setup = setup_of c.args.s c.args.matrix.now in
     let ok : JudgeZeroOk setup c.args.h.now c.args.values.now = judge_zero-ok setup c.args.h.now c.args.values.now c.requires in
     let small : dim setup ≤ 16 = few setup ok.setup in
-    let whole : take (dim setup) c.copy.new.0 ≡ padded setup c.args.h.now = ap (take (dim setup)) c.copy.ensures ∙ padded-is setup c.args.h.now small in
+    let whole : take (dim setup) c.copy.new.a ≡ padded setup c.args.h.now = ap (take (dim setup)) c.copy.ensures ∙ padded-is setup c.args.h.now small in
     sym (ap length whole ∙ padded-length setup c.args.h.now)
 
 pub judgement-requires : goal.judgement-requires
@@ -39,7 +39,7 @@ judgement-requires c =
     let setup : Setup = setup_of c.args.s c.args.matrix.now in
     let ok : JudgeZeroOk setup c.args.h.now c.args.values.now = judge_zero-ok setup c.args.h.now c.args.values.now c.requires in
     let small : dim setup ≤ 16 = few setup ok.setup in
-    let whole : take (dim setup) c.copy.new.0 ≡ padded setup c.args.h.now = ap (take (dim setup)) c.copy.ensures ∙ padded-is setup c.args.h.now small in
+    let whole : take (dim setup) c.copy.new.a ≡ padded setup c.args.h.now = ap (take (dim setup)) c.copy.ensures ∙ padded-is setup c.args.h.now small in
     let x = c.args in
     rw whole (judge-accepts setup (padded setup x.h.now) x.values.now (padded-ok setup x.h.now x.values.now ok))
 
@@ -48,7 +48,7 @@ returns c =
     let setup : Setup = setup_of c.args.s c.args.matrix.now in
     let ok : JudgeZeroOk setup c.args.h.now c.args.values.now = judge_zero-ok setup c.args.h.now c.args.values.now c.requires in
     let small : dim setup ≤ 16 = few setup ok.setup in
-    let whole : take (dim setup) c.copy.new.0 ≡ padded setup c.args.h.now = ap (take (dim setup)) c.copy.ensures ∙ padded-is setup c.args.h.now small in
+    let whole : take (dim setup) c.copy.new.a ≡ padded setup c.args.h.now = ap (take (dim setup)) c.copy.ensures ∙ padded-is setup c.args.h.now small in
     let x = c.args in
     c.judgement.ensures
     ∙ ap (λ (h : List ℕ). judgement_of setup h x.values.now) whole
