@@ -2,7 +2,7 @@
 // call gave.
 #![tactic(auto)]
 
-use libc::STDOUT_FILENO;
+const STDOUT_FILENO: i32 = 1;
 use scheme::{
     Decided, Fate, Judged, Judgement, Opened, Params, Rehearsal, SetJudged, Settled, Share, Value,
     Written,

@@ -22,7 +22,7 @@ returns-then-not-all_below c = let both = ends-no-byte c.args.set c.args.shares.
     c.if-not-consistent.false (ap not (sym c.all_below.ensures) ∙ c.if-not-all_below.true) in record { result_value = both.0; key_after = both.1 }
 
 pub write_bytes-requires : goal.write_bytes-requires
-write_bytes-requires c = record { key_len = c.requires.room; below = below_by 256 _ (omega arith) (sym c.all_below.ensures ∙ not-false _ c.if-not-all_below.false) }
+write_bytes-requires c = record { key_len = c.requires.room; below = below_by 256 _ (omega arith) (sym c.all_below.ensures ∙ c.if-not-all_below.false) }
 
 pub returns : goal.returns
 returns c = let both = ends-key c.args.set c.args.shares.now c.args.key.now c.requires _ c.size.ensures.0 c.if-size-lt7.false c.interpolate-found.ensures

@@ -26,19 +26,19 @@ returns-then-not-as_long c =
     let x = c.args in
     rw (← c.combine_refusal.ensures)
     (declined _ _ (λ z.
-    false≢true (sym (not-true c.as_long.result c.if-not-as_long.true) ∙ c.as_long.ensures
+    false≢true (sym (c.if-not-as_long.true) ∙ c.as_long.ensures
     ∙ combine-long x.p x.constants.now x.shares.now x.rounds.now (sym c.combine_refusal.ensures ∙ z))))
 
 pub odd-odd-requires : goal.odd-odd-requires
 odd-odd-requires c =
-    let long : let x = c.args in as_long (length x.constants.now) (length x.shares.now) (length x.rounds.now) ≡ true = sym c.as_long.ensures ∙ not-false _ c.if-not-as_long.false in
+    let long : let x = c.args in as_long (length x.constants.now) (length x.shares.now) (length x.rounds.now) ≡ true = sym c.as_long.ensures ∙ c.if-not-as_long.false in
     let x = c.args in
     let l = long-is x.p x.constants.now x.shares.now x.rounds.now long in
     (l.0, l.1)
 
 pub products-sum-requires : goal.products-sum-requires
 products-sum-requires c =
-    let long : let x = c.args in as_long (length x.constants.now) (length x.shares.now) (length x.rounds.now) ≡ true = sym c.as_long.ensures ∙ not-false _ c.if-not-as_long.false in
+    let long : let x = c.args in as_long (length x.constants.now) (length x.shares.now) (length x.rounds.now) ≡ true = sym c.as_long.ensures ∙ c.if-not-as_long.false in
     let x = c.args in
     let l = long-is x.p x.constants.now x.shares.now x.rounds.now long in
     (l.0, l.2)
@@ -64,7 +64,7 @@ returns-then-no_field c =
 
 pub residue-value-requires : goal.residue-value-requires
 residue-value-requires c =
-    let long : let x = c.args in as_long (length x.constants.now) (length x.shares.now) (length x.rounds.now) ≡ true = sym c.as_long.ensures ∙ not-false _ c.if-not-as_long.false in
+    let long : let x = c.args in as_long (length x.constants.now) (length x.shares.now) (length x.rounds.now) ≡ true = sym c.as_long.ensures ∙ c.if-not-as_long.false in
     let passed : let x = c.args in eqb c.odd-odd.result 0 ≡ every (length x.constants.now) (even ((x.p + 65535) % 65536) x.constants.now x.shares.now x.rounds.now (round_of x.rounds.now)) = let x = c.args in
     let cs = x.constants.now in
     let r = c.round_of-round in
@@ -80,7 +80,7 @@ residue-value-requires c =
 pub returns : goal.returns
 unfolding combine
 returns c =
-    let long : let x = c.args in as_long (length x.constants.now) (length x.shares.now) (length x.rounds.now) ≡ true = sym c.as_long.ensures ∙ not-false _ c.if-not-as_long.false in
+    let long : let x = c.args in as_long (length x.constants.now) (length x.shares.now) (length x.rounds.now) ≡ true = sym c.as_long.ensures ∙ c.if-not-as_long.false in
     let passed : let x = c.args in eqb c.odd-odd.result 0 ≡ every (length x.constants.now) (even ((x.p + 65535) % 65536) x.constants.now x.shares.now x.rounds.now (round_of x.rounds.now)) = let x = c.args in
     let cs = x.constants.now in
     let r = c.round_of-round in

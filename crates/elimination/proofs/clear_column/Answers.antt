@@ -14,6 +14,7 @@ use Rattle.elimination.specs.Elimination.{clear_to}
 use Rattle.elimination.specs.Inner.{other_entry}
 use Rattle.elimination.proofs.Flat.{clear-start, other_row, other-below, row-passed, row-cleared, length-clear, rows-below, rows_step, count-step}
 use Rattle.elimination.proofs.clear_column.Goals as goal
+use Rattle.elimination.proofs.clear_column.Goals.{then-f-ne0, else-f-ne0}
 
 pub overflow_mul-q : goal.overflow_mul-q
 overflow_mul-q c = let x = c.args in omega (arith, row_fits x.rows x.width x.k (omega arith))
@@ -83,14 +84,14 @@ loop-t-preserved c =
     let f = c.other_entry-f.result in
     let step = rows_step x.p x.width x.k x.col r x.a.now l.a c.if-f-ne0.a l.invariant.3 in
     let count = count-step x.p x.width x.k x.col r l.steps x.a.now l.a (omega arith) l.invariant.3 l.invariant.4 in
-    ⊎_elim
-    (λ w.
-    let g = row-cleared x.p x.width x.k x.col r f l.a (omega arith) read w.0.true in
-    (suc r, is-inside, omega (arith, l.invariant.2), step (w.5 ∙ w.2.ensures ∙ ap (λ (z : ℕ). add_row x.p (x.p - f) z (x.k * x.width) x.width l.a) l.invariant.2 ∙ g.0), w.6 ∙ count 1 g.1))
-    (λ w.
-    let g = row-passed x.p x.width x.k x.col r f l.a (omega arith) read w.0.false in
-    (suc r, is-inside, omega (arith, l.invariant.2), step (w.1 ∙ g.0), omega (arith, w.2, count 0 g.1)))
-    c.if-f-ne0.branch-raw
+    elim c.if-f-ne0.branch [
+      then-f-ne0 w ↦
+        let g = row-cleared x.p x.width x.k x.col r f l.a (omega arith) read w.if-f-ne0.true in
+        (suc r, is-inside, omega (arith, l.invariant.2), step (w.a-is ∙ w.add_row.ensures ∙ ap (λ (z : ℕ). add_row x.p (x.p - f) z (x.k * x.width) x.width l.a) l.invariant.2 ∙ g.0), w.steps-is ∙ count 1 g.1)
+    | else-f-ne0 w ↦
+        let g = row-passed x.p x.width x.k x.col r f l.a (omega arith) read w.if-f-ne0.false in
+        (suc r, is-inside, omega (arith, l.invariant.2), step (w.a-is ∙ g.0), omega (arith, w.steps-is, count 0 g.1))
+    ]
 
 pub shape_of-a : goal.shape_of-a
 shape_of-a c =

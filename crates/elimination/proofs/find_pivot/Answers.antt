@@ -14,6 +14,7 @@ use Rattle.gauss.specs.Gauss.{usable, pivot_of}
 use Rattle.elimination.specs.Elimination.{view, flat_pivot}
 use Rattle.elimination.specs.Inner.{buffers}
 use Rattle.elimination.proofs.find_pivot.Goals as goal
+use Rattle.elimination.proofs.find_pivot.Goals.{then-used-top-eq0+else-a-top-ne0, else-used-top-eq0}
 
 pub loop-top-init : goal.loop-top-init
 unfolding flat_pivot pivot_of first
@@ -48,7 +49,10 @@ loop-top-preserved c =
       search rules,
       sym
           (first_step t l.top x.rows (omega arith)
-          (⊎_elim (λ w. simp (eq-eqb _ _ w.0.true, eq-eqb _ _ w.2.false)) (λ w. simp (ne_eqb _ _ w.left)) c.if-used-top-eq0.branch-raw))
+          (elim c.if-used-top-eq0.branch [
+            then-used-top-eq0+else-a-top-ne0 w ↦ simp (eq-eqb _ _ w.if-used-top-eq0.true, eq-eqb _ _ w.if-a-top-ne0.false)
+          | else-used-top-eq0 w ↦ simp (ne_eqb _ _ w.if-used-top-eq0.false)
+          ]))
           ∙ l.invariant.1,
     )
 

@@ -6,36 +6,22 @@ use mathlib.Core.List.{List}
 use native.Mathlib.Nat.{mul-le-mul_right}
 use native.Mathlib.Omega.{arith}
 use lib.ListN.{length}
-use Rattle.elimination.specs.Elimination.{flat_reduce, flat_steps}
+use Rattle.elimination.specs.Elimination.{flat_reduce, flat_steps, flat_pivot}
 use Rattle.elimination.specs.Inner.{buffers, Ready, RowUsed, Reduction}
 use Rattle.elimination.proofs.Flat.{column-some, column-none, counts_some, counts-none, passes, renamed, counted-le, below-reduce}
-use Rattle.elimination.proofs.reduce.Tie as tie
 use Rattle.elimination.proofs.reduce.Goals as goal
+use Rattle.elimination.proofs.reduce.Goals.{then-k-rows, else-k-rows}
 
 -- what the next column leaves, where it has a pivot and where it has none
+used-next : {p rows width col : ℕ} {a used b v x y : List ℕ} {total n : ℕ} (k : ℕ) → Reduction p rows width col a used b v total
+    → k ≡ flat_pivot rows width col (buffers b v) → k < rows → RowUsed p rows width k col b v x y n → Reduction p rows width (col + 1) a used x y (total + n)
+used-next {p} {rows} {width} {col} {a} {used} {b} {v} {x} {y} {total} {n} k so e there it =
+    passes so x y (column-some p rows width col (buffers b v) (buffers x y) k e there it.state) n (counts_some p rows width col (buffers b v) k n e there it.steps)
 
-module _ (c : tie.After-find-pivot invariant-loop decreases-loop) where
-  abbrev Next : List ℕ → List ℕ → ℕ → Type 0
-  Next b v n = let x = (start (at-loop c)).args in Reduction x.p x.rows x.width ((at-loop c).loop.col + 1) x.a.now x.used.now b v ((at-loop c).loop.total + n)
-
-  used-next : c.find-pivot.result < (start (at-loop c)).args.rows → (b v : List ℕ) (n : ℕ)
-      → (let x = (start (at-loop c)).args in RowUsed x.p x.rows x.width c.find-pivot.result (at-loop c).loop.col (at-loop c).loop.a (at-loop c).loop.used b v n)
-      → Next b v n
-  used-next there b v n used =
-      let x = (start (at-loop c)).args in
-      let l = (at-loop c).loop in
-      let s = buffers l.a l.used in
-      let k = c.find-pivot in
-      passes l.inv.3 b v (column-some x.p x.rows x.width l.col s (buffers b v) k.result k.ensures there used.state) n
-      (counts_some x.p x.rows x.width l.col s k.result n k.ensures there used.steps)
-  same_next : (start (at-loop c)).args.rows ≤ c.find-pivot.result → Next (at-loop c).loop.a (at-loop c).loop.used 0
-  same_next none =
-      let x = (start (at-loop c)).args in
-      let l = (at-loop c).loop in
-      let s = buffers l.a l.used in
-      let k = c.find-pivot in
-      passes l.inv.3 l.a l.used (column-none x.p x.rows x.width l.col s k.result k.ensures none) 0
-      (counts-none x.p x.rows x.width l.col s k.result k.ensures none)
+same_next : {p rows width col : ℕ} {a used b v : List ℕ} {total : ℕ} (k : ℕ) → Reduction p rows width col a used b v total
+    → k ≡ flat_pivot rows width col (buffers b v) → rows ≤ k → Reduction p rows width (col + 1) a used b v (total + 0)
+same_next {p} {rows} {width} {col} {a} {used} {b} {v} k so e none =
+    passes so b v (column-none p rows width col (buffers b v) k e none) 0 (counts-none p rows width col (buffers b v) k e none)
 
 pub loop-col-init : goal.loop-col-init
 unfolding flat_reduce flat_steps
@@ -67,20 +53,25 @@ pub overflow_add-total : goal.overflow_add-total
 overflow_add-total c =
     let x = c.args in
     let fits : (c.loop-col.col + 1) * x.rows ≤ x.width * x.rows = mul-le-mul_right x.rows (omega (arith, c.requires.pivots_le_width)) in
-    omega (arith, counted-le (used-next «bare»h c.if-k-rows.true _ _ _ c.use_row-total.ensures), fits, c.requires.ready.fits.size)
+    omega (arith, counted-le (used-next _ c.loop-col.invariant.3 c.find_pivot-k.ensures c.if-k-rows.true c.use_row-total.ensures), fits, c.requires.ready.fits.size)
 
 pub loop-col-preserved : goal.loop-col-preserved
 loop-col-preserved c =
     let i = c.loop-col.invariant in
-    ⊎_elim
-    (λ w. (
-      omega arith,
-      ap length w.9 ∙ w.4.kept.1.0 ∙ i.1,
-      ap length w.10 ∙ w.4.kept.1.1.0 ∙ i.2,
-      renamed (used-next «bare»h w.0.true _ _ _ w.4.ensures) w.9 w.10 w.11,
-    ))
-    (λ w. (omega arith, ap length w.1 ∙ i.1, ap length w.2 ∙ i.2, renamed (same_next «bare»h w.0.false) w.1 w.2 (omega (arith, w.3))))
-    c.if-k-rows.branch-raw
+    elim c.if-k-rows.branch [
+      then-k-rows w ↦ (
+        omega arith,
+        ap length w.a-is ∙ w.use_row-total.auto.a ∙ i.1,
+        ap length w.used-is ∙ w.use_row-total.auto.used ∙ i.2,
+        renamed (used-next _ i.3 c.find_pivot-k.ensures w.if-k-rows.true w.use_row-total.ensures) w.a-is w.used-is w.total-is,
+      )
+    | else-k-rows w ↦ (
+        omega arith,
+        ap length w.a-is ∙ i.1,
+        ap length w.used-is ∙ i.2,
+        renamed (same_next _ i.3 c.find_pivot-k.ensures w.if-k-rows.false) w.a-is w.used-is (omega (arith, w.total-is)),
+      )
+    ]
 
 pub returns : goal.returns
 returns c =

@@ -58,12 +58,13 @@ returns-then-i-n c =
     let i = c.holders.i in
     let x = c.args in
     let S = setup_of x.s x.matrix.now in
-    ⊎_elim (λ w. absurd (omega arith))
-    (λ w.
-    let sent = is-pair-value-of S _ c.dim-d.ensures.0 _ x.gs.now w.1.j i w.3.ensures in
-    let due = is-due-of S _ c.dim-d.ensures.0 _ x.hs.now i w.1.j w.4.ensures in
-    rw w.6 (pair-differs S _ _ i w.1.j w.0.true w.2.true (λ e. w.5.true (sent ∙ e ∙ sym due)) w.1.invariant.1))
-    c.holders-test.branch-raw
+    elim c.holders-test.branch [
+      a w ↦ absurd (omega arith)
+    | b w ↦
+        let sent = is-pair-value-of S _ c.dim-d.ensures.0 _ x.gs.now w.loop-j.j i w.rows_product-sent.ensures in
+        let due = is-due-of S _ c.dim-d.ensures.0 _ x.hs.now i w.loop-j.j w.rows_product-due.ensures in
+        rw w.j-is (pair-differs S _ _ i w.loop-j.j w.holders-test.true w.loop-j-test.true (λ e. w.if-sent-due.true (sent ∙ e ∙ sym due)) w.loop-j.invariant.1)
+    ]
 
 pub returns : goal.returns
 returns c = pairs_end _ _ _ _ c.holders.invariant.0 c.if-i-n.false c.holders.invariant.1

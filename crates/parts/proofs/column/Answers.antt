@@ -6,6 +6,7 @@ use native.Mathlib.Omega.{arith}
 use borrow.Author.Rules.{rules}
 use Rattle.parts.proofs.Parts.{column-none, column-lane, column-left}
 use Rattle.parts.proofs.column.Goals as goal
+use Rattle.parts.proofs.column.Goals.{then-t-count, else-t-count}
 
 pub loop-t-init : goal.loop-t-init
 loop-t-init c = (search rules, column-none _ _ _ _)
@@ -29,9 +30,10 @@ pub loop-t-preserved : goal.loop-t-preserved
 loop-t-preserved c =
     let l = c.loop-t in (
       search rules,
-      ⊎_elim (λ w. rw w.2 (column-lane _ _ _ _ _ _ (omega (arith, c.requires.at_in_bounds.0)) (c.requires.at_in_bounds.1 _) l.invariant.1))
-          (λ w. rw w.1 (column-left _ _ _ _ _ _ w.0.false l.invariant.1))
-          c.if-t-count.branch-raw,
+      elim c.if-t-count.branch [
+        then-t-count w ↦ rw w.columns-is (column-lane _ _ _ _ _ _ (omega (arith, c.requires.at_in_bounds.0)) (c.requires.at_in_bounds.1 _) l.invariant.1)
+      | else-t-count w ↦ rw w.columns-is (column-left _ _ _ _ _ _ w.if-t-count.false l.invariant.1)
+      ],
     )
 
 pub shape_of-columns : goal.shape_of-columns

@@ -12,7 +12,7 @@ pub loop-t-init : goal.loop-t-init
 loop-t-init c = (search rules, refl, filled_none _ _)
 
 pub overflow_cast-r-in-loop-t : goal.overflow_cast-r-in-loop-t
-overflow_cast-r-in-loop-t c = omega (arith, mod-lt (get_or c.args.t2 c.loop-t.t 0) c.requires)
+overflow_cast-r-in-loop-t c = omega (arith, mod-lt (get_or c.args.sums c.loop-t.t 0) c.requires)
 
 pub loop-t-preserved : goal.loop-t-preserved
 loop-t-preserved c = (search rules, c.loop-t.invariant.1, filled-store _ _ _ _ _ c.loop-t.invariant.2 refl)

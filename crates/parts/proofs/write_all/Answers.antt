@@ -9,7 +9,12 @@ use Rattle.parts.proofs.write_all.Goals as goal
 
 pub returns-then-p-gt257 : goal.returns-then-p-gt257
 returns-then-p-gt257 c =
-    let w = c.write_each.ensures in record { gs_after = rw (largest c.args.p c.requires.p_value c.if-p-gt257.true) (w.gs_after ∙ past-filled _ (entry_g _ _ _ _) 0 _ _ _ (omega arith) (simp zero-mul (filled_none _ _))); hs_after = rw (largest c.args.p c.requires.p_value c.if-p-gt257.true) (w.hs_after ∙ past-filled _ (entry_h _ _ _ _) 0 _ _ _ (omega arith) (simp zero-mul (filled_none _ _))) }
+    let w = c.write_each.ensures in
+    let e = largest c.args.p c.requires.p_value c.if-p-gt257.true in
+    record {
+      gs_after = rw e (w.gs_after ∙ past-filled _ (entry_g _ _ _ _) 0 _ _ _ (omega arith) (simp zero-mul (filled_none _ _)));
+      hs_after = rw e (w.hs_after ∙ past-filled _ (entry_h _ _ _ _) 0 _ _ _ (omega arith) (simp zero-mul (filled_none _ _)));
+    }
 
 pub write_eights-requires : goal.write_eights-requires
 write_eights-requires c = record { all_room = c.requires.all_room; below = λ k. omega (arith, c.requires.below k); below_2 = λ k. omega (arith, c.requires.below_2 k) }

@@ -11,6 +11,7 @@ use Rattle.base.proofs.Fill.{length-laid}
 use Rattle.parts.specs.Inner.{entry_h, entry_g}
 use Rattle.parts.proofs.Parts.{lines-inside, part_room, past-none, past_row}
 use Rattle.parts.proofs.write_each.Goals as goal
+use Rattle.parts.proofs.write_each.Goals.{then-p-gt257, else-p-gt257}
 
 pub loop-i-init : goal.loop-i-init
 loop-i-init c = (search rules, c.requires.first_le_n.0, refl, refl, past-none _ _ _ _, past-none _ _ _ _)
@@ -45,8 +46,13 @@ write_g_in_lanes-requires c =
 pub loop-i-preserved : goal.loop-i-preserved
 loop-i-preserved c =
     let h = c.write_one.ensures in
-    let g = ⊎_elim (λ w. w.5 ∙ w.2.ensures) (λ w. w.5 ∙ w.2.ensures) c.if-p-gt257.branch-raw in
-    let l = c.loop-i in (
+    let x = c.args in
+    let l = c.loop-i in
+    let g : c.if-p-gt257.gs ≡ laid (entry_g x.p x.d x.matrix.now x.f.now l.i) (l.i * x.d) x.d l.gs = elim c.if-p-gt257.branch [
+      then-p-gt257 w ↦ w.gs-is ∙ w.write_one-then-p-gt257.ensures
+    | else-p-gt257 w ↦ w.gs-is ∙ w.write_g_in_lanes.ensures
+    ] in (
+
       search rules,
       search rules,
       ap length g ∙ length-laid _ _ _ _ ∙ l.invariant.2,

@@ -7,7 +7,7 @@ use Rattle.points.specs.Inner.{weight_of}
 use Rattle.points.proofs.weight.Goals as goal
 
 pub inverse_by-requires : goal.inverse_by-requires
-inverse_by-requires c = let both = (rw c.basis_at.ensures (mod-lt _ (omega (arith, c.requires.prime.big))), c.requires.1) in record { a_lt_p = both.0; prime = both.1; inverses = both.2 }
+inverse_by-requires c = record { a_lt_p = rw c.basis_at.ensures (mod-lt _ (omega (arith, c.requires.prime.big))); prime = c.requires.prime; inverses = c.requires.inverses }
 
 pub returns : goal.returns
 unfolding weight_of

@@ -4,7 +4,6 @@ use mathlib.Core.Path.{◌≡◌}
 use lib.Dec.{eqb, ltb}
 use Rattle.base.specs.Search.{every}
 use Rattle.record_words.specs.Words.{word_at}
-use Rattle.record_words.proofs.or_words.Tie as tie
 use Rattle.record_words.proofs.or_words.Given as goal
 
 abbrev pub invariant-loop-k : goal.invariant-loop-k

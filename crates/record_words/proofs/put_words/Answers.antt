@@ -12,7 +12,7 @@ pub loop-k-init : goal.loop-k-init
 loop-k-init c = (omega arith, refl, rw (add-zero c.args.i))
 
 pub overflow_cast-high : goal.overflow_cast-high
-overflow_cast-high c = omega (arith, c.shared_slice_known-1.given c.loop-k.k)
+overflow_cast-high c = omega (arith, c.type_inv.ws c.loop-k.k)
 
 pub bounds-out-i-in-loop-k : goal.bounds-out-i-in-loop-k
 bounds-out-i-in-loop-k c = simp length-set (omega arith)

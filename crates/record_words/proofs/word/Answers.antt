@@ -5,7 +5,7 @@ use lib.ListN.{get_or-eq_default}
 use Rattle.record_words.proofs.word.Goals as goal
 
 pub overflow_cast-result : goal.overflow_cast-result
-overflow_cast-result c = omega (arith, c.shared_slice_known-then-i-s-2-1.given (2 * c.args.i))
+overflow_cast-result c = omega (arith, c.type_inv.s (2 * c.args.i))
 
 pub returns-then-i-s-2 : goal.returns-then-i-s-2
 returns-then-i-s-2 c =
