@@ -36,7 +36,7 @@ returns c =
     let P = c.requires.0 in
     let b = front t (3 + dim S) c.args.k (zeros 16) _ (omega (arith, c.requires.1)) c.get_words-2.ensures in
     record {
-      «bare»shares = ap (λ (l : List ℕ). l ++ drop S.l (zeros 8)) (c.get_words.ensures ∙ ap (words_at t 3) (length-take-le S.l (zeros 8) (omega (arith, P.secret))));
+      shares = ap (λ (l : List ℕ). l ++ drop S.l (zeros 8)) (c.get_words.ensures ∙ ap (words_at t 3) (length-take-le S.l (zeros 8) (omega (arith, P.secret))));
       h-size = b.0;
-      «bare»h = b.1;
+      h = b.1;
     }

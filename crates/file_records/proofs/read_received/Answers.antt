@@ -22,7 +22,7 @@ returns c =
     let m = c.pair_records-pairs.ensures.0 in
     record {
       number = c.fault_at-refusal.ensures ∙ ap (fault_at x.h x.t.now) c.reached-k.ensures;
-      «bare»byte = c.place-byte.ensures ∙ ap (place x.h) c.reached-k.ensures;
+      byte = c.place-byte.ensures ∙ ap (place x.h) c.reached-k.ensures;
       values-size = c.words_apart-values.ensures.0;
       values2-size = c.words_apart-values2.ensures.0;
       verdicts-size = c.words_apart-verdicts.ensures.0;

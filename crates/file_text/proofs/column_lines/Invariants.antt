@@ -7,9 +7,9 @@ use Rattle.file_text.specs.Lines.{column_lines}
 use Rattle.file_text.proofs.column_lines.Given as goal
 
 abbrev pub invariant-loop-column : goal.invariant-loop-column
-invariant-loop-column l = (l.k ≤ l.n) × (l.n ≡ length l.values) × (k ≤ l.at + l.k * (length l.word + 12)) × (length l.column ≡ length l.initial.out)
-    × (sets l.column k (column_lines l.word l.k (drop l.k l.values)) ≡ sets l.initial.out l.at (column_lines l.word 0 l.values))
-    × (k + length (column_lines l.word l.k (drop l.k l.values)) ≡ l.at + length (column_lines l.word 0 l.values))
+invariant-loop-column l = (l.column ≤ l.n) × (l.n ≡ length l.values) × (l.k ≤ l.at + l.column * (length l.word + 12)) × (length l.out ≡ length l.initial.out)
+    × (sets l.out l.k (column_lines l.word l.column (drop l.column l.values)) ≡ sets l.initial.out l.at (column_lines l.word 0 l.values))
+    × (l.k + length (column_lines l.word l.column (drop l.column l.values)) ≡ l.at + length (column_lines l.word 0 l.values))
 
 abbrev pub decreases-loop-column : goal.decreases-loop-column
-decreases-loop-column l = l.n - l.k
+decreases-loop-column l = l.n - l.column

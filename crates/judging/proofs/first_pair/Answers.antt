@@ -9,6 +9,7 @@ use Rattle.scheme.proofs.Calls.{rehearse-ok, limits-pos}
 use Rattle.judging.proofs.Products.{row_inside, is-pair-value-of, is-due-of}
 use Rattle.judging.proofs.Pairs.{pairs-begin, row-begin, row-end, pair-agrees, pair-differs, pairs_end}
 use Rattle.judging.proofs.first_pair.Goals as goal
+use Rattle.judging.proofs.first_pair.Goals.{else-holders-test, then-holders-test+then-loop-j-test+then-sent-due}
 
 pub holders-init : goal.holders-init
 holders-init c = (omega arith, pairs-begin _ _ _)
@@ -59,8 +60,8 @@ returns-then-i-n c =
     let x = c.args in
     let S = setup_of x.s x.matrix.now in
     elim c.holders-test.branch [
-      a w ↦ absurd (omega arith)
-    | b w ↦
+      else-holders-test w ↦ absurd (omega arith)
+    | then-holders-test+then-loop-j-test+then-sent-due w ↦
         let sent = is-pair-value-of S _ c.dim-d.ensures.0 _ x.gs.now w.loop-j.j i w.rows_product-sent.ensures in
         let due = is-due-of S _ c.dim-d.ensures.0 _ x.hs.now i w.loop-j.j w.rows_product-due.ensures in
         rw w.j-is (pair-differs S _ _ i w.loop-j.j w.holders-test.true w.loop-j-test.true (λ e. w.if-sent-due.true (sent ∙ e ∙ sym due)) w.loop-j.invariant.1)

@@ -10,10 +10,10 @@ pub returns-then-a-ne0 : goal.returns-then-a-ne0
 returns-then-a-ne0 c =
     let x = c.args in
     let S = setup_of x.s [] in
-    by_first (table S (zero_lent S x.g_room x.h-room) []) (standing_rules zero_layout S x.part.now) _ c.parts_lent-a.ensures c.if-a-ne0.true
+    by_first (table S (zero_lent S x.g_room x.h_room) []) (standing_rules zero_layout S x.part.now) _ c.parts_lent-a.ensures c.if-a-ne0.true
 
 pub returns : goal.returns
 returns c =
     let x = c.args in
     let S = setup_of x.s [] in
-    by-second (table S (zero_lent S x.g_room x.h-room) []) (standing_rules zero_layout S x.part.now) _ _ tt c.parts_lent-a.ensures c.if-a-ne0.false c.zero_fault.ensures
+    by-second (table S (zero_lent S x.g_room x.h_room) []) (standing_rules zero_layout S x.part.now) _ _ tt c.parts_lent-a.ensures c.if-a-ne0.false c.zero_fault.ensures

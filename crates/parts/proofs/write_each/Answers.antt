@@ -1,13 +1,14 @@
 -- The parts of the holders from `first` to i are written, each at its place.
-use Prim.Native.Nat.{◌-◌}
+use Prim.Native.Nat.{◌*◌, ◌-◌}
 use mathlib.Core.Logic.{⊎_elim}
-use mathlib.Core.Path.{refl, ap, ◌∙◌}
+use mathlib.Core.Path.{◌≡◌, refl, ap, ◌∙◌}
 use native.Mathlib.Nat.{le_antisymm}
 use native.Mathlib.Omega.{arith}
 use borrow.Author.Rules.{rules}
 use lib.ListN.{length}
 use Rattle.base.proofs.Matrix.{row_fits}
 use Rattle.base.proofs.Fill.{length-laid}
+use Rattle.base.specs.Fill.{laid}
 use Rattle.parts.specs.Inner.{entry_h, entry_g}
 use Rattle.parts.proofs.Parts.{lines-inside, part_room, past-none, past_row}
 use Rattle.parts.proofs.write_each.Goals as goal

@@ -14,10 +14,8 @@ use Rattle.base.proofs.Search.{every-step, every-at, every-all, every-fails}
 use Rattle.elimination.specs.Elimination.{flat_pivot}
 use Rattle.elimination.specs.Inner.{buffers}
 use Rattle.read_off.specs.ReadOff.{flat_unsolved, all_solved, flat_all_solved}
+use Rattle.read_off.proofs.all_solved.Invariants.{solved}
 use Rattle.read_off.proofs.all_solved.Goals as goal
-
-abbrev solved : (rows width pivots : ℕ) → List ℕ → List ℕ → ℕ → Bool
-solved rows width pivots a used k = leb rows (flat_unsolved rows width (pivots + k) (buffers a used))
 
 pub loop-q-init : goal.loop-q-init
 unfolding every

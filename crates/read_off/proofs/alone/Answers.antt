@@ -13,6 +13,7 @@ use Rattle.base.proofs.Search.{first-stop, first_step, first-end}
 use Rattle.gauss.specs.Gauss.{elsewhere}
 use Rattle.read_off.specs.ReadOff.{alone}
 use Rattle.read_off.proofs.alone.Goals as goal
+use Rattle.read_off.proofs.alone.Goals.{then-q-j+else-a-t-ne0, else-q-j}
 
 pub loop-j-init : goal.loop-j-init
 unfolding first
@@ -37,7 +38,10 @@ loop-j-preserved c =
       search rules,
       sym
           (first_step t l.j x.pivots (omega arith)
-          (⊎_elim (λ w. simp (ne_eqb _ _ w.0.true, eq-eqb _ _ w.2.false)) (λ w. simp (eq-eqb _ _ w.left)) c.if-q-j.branch-raw))
+          (elim c.if-q-j.branch [
+            then-q-j+else-a-t-ne0 w ↦ simp (ne_eqb _ _ w.if-q-j.true, eq-eqb _ _ w.if-a-t-ne0.false)
+          | else-q-j w ↦ simp (eq-eqb _ _ w.if-q-j.false)
+          ]))
           ∙ l.invariant.1,
     )
 
