@@ -12,7 +12,7 @@ pub returns-then-size-lt7 : goal.returns-then-size-lt7
 returns-then-size-lt7 c = let both = ends-few c.args.set c.args.shares.now c.args.key.now c.requires _ c.size.ensures.0 c.if-size-lt7.true in record { result_value = both.0; key_after = both.1 }
 
 pub interpolate-found-requires : goal.interpolate-found-requires
-interpolate-found-requires c = let both = asked c.args.set c.args.shares.now c.args.key.now c.requires _ c.size.ensures.0 c.if-size-lt7.false in record { set_bound = both.0; in_bounds = both.1; below = both.2 }
+interpolate-found-requires c = let both = asked c.args.set c.args.shares.now c.args.key.now c.requires _ c.size.ensures.0 c.if-size-lt7.false in record { set_bound = both.0; in_bounds = both.1.0; below = both.1.1 }
 
 pub returns-then-not-consistent : goal.returns-then-not-consistent
 returns-then-not-consistent c = let both = ends-differs c.args.set c.args.shares.now c.args.key.now c.requires _ c.size.ensures.0 c.if-size-lt7.false c.interpolate-found.ensures c.if-not-consistent.true in record { result_value = both.0; key_after = both.1 }

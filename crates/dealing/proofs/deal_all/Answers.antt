@@ -22,8 +22,7 @@ write_all-requires c =
     let x = c.args in
     let S = setup_of x.s x.matrix.now in
     let z = sym c.deal_all_refusal-refusal.ensures ∙ c.if-refusal-ne0.false in
-    let ok = deal_all-ok S x.secrets.now x.random.now x.gs.now x.hs.now z in let both = rw c.dim-d.ensures.0
-    (all_room S _ _ (dealt-array S _ _ _ ok.0 c.fill_dealt.ensures) ok.0.setup x.gs.now x.hs.now ok.1 ok.2) in record { all_room = both.0; below = both.1; below_2 = both.2; p_value = both.3 }
+    let ok = deal_all-ok S x.secrets.now x.random.now x.gs.now x.hs.now z in let both = (all_room S _ _ (dealt-array S _ _ _ ok.0 c.fill_dealt.ensures) ok.0.setup x.gs.now x.hs.now ok.1 ok.2) in record { all_room = rw c.dim-d.ensures.0 both.0; below = both.1.0; below_2 = both.1.1.0; p_value = both.1.1.1 }
 
 pub returns : goal.returns
 returns c =

@@ -37,7 +37,7 @@ write_all-requires c =
     let S = setup_of x.s x.matrix.now in
     let B = buffers x.gs.now x.hs.now x.gs2.now x.hs2.now in
     let z = sym (rw c.matrix_len-size.ensures at c.mapped_refusal-refusal.ensures) ∙ c.if-refusal-ne0.false in
-    let ok = deal_mapped_all-ok S x.secrets.now x.random.now x.phi.now x.random2.now B z in let both = rw c.dim-d.ensures.0 (all_room S _ _ (dealt-array S _ _ _ ok.0.first c.fill_dealt.ensures) ok.0.first.setup x.gs.now x.hs.now ok.1.g ok.1.h) in record { all_room = both.0; below = both.1; below_2 = both.2; p_value = both.3 }
+    let ok = deal_mapped_all-ok S x.secrets.now x.random.now x.phi.now x.random2.now B z in let both = (all_room S _ _ (dealt-array S _ _ _ ok.0.first c.fill_dealt.ensures) ok.0.first.setup x.gs.now x.hs.now ok.1.g ok.1.h) in record { all_room = rw c.dim-d.ensures.0 both.0; below = both.1.0; below_2 = both.1.1.0; p_value = both.1.1.1 }
 
 pub write_all-requires-2 : goal.write_all-requires-2
 write_all-requires-2 c =
@@ -46,7 +46,7 @@ write_all-requires-2 c =
     let B = buffers x.gs.now x.hs.now x.gs2.now x.hs2.now in
     let z = sym (rw c.matrix_len-size.ensures at c.mapped_refusal-refusal.ensures) ∙ c.if-refusal-ne0.false in
     let ok = deal_mapped_all-ok S x.secrets.now x.random.now x.phi.now x.random2.now B z in
-    let F = dealt-array S _ _ _ ok.0.first c.fill_dealt.ensures in let both = rw c.dim-d.ensures.0 (all_room S _ _ (mapped-array S _ _ _ _ _ _ _ ok.0 F c.fill_mapped.ensures) ok.0.first.setup x.gs2.now x.hs2.now ok.1.g2 ok.1.h2) in record { all_room = both.0; below = both.1; below_2 = both.2; p_value = both.3 }
+    let F = dealt-array S _ _ _ ok.0.first c.fill_dealt.ensures in let both = (all_room S _ _ (mapped-array S _ _ _ _ _ _ _ ok.0 F c.fill_mapped.ensures) ok.0.first.setup x.gs2.now x.hs2.now ok.1.g2 ok.1.h2) in record { all_room = rw c.dim-d.ensures.0 both.0; below = both.1.0; below_2 = both.1.1.0; p_value = both.1.1.1 }
 
 pub returns : goal.returns
 returns c =

@@ -14,10 +14,9 @@ use Rattle.field.specs.Dot.{at}
 use Rattle.scheme.specs.Setup.{Setup, setup_of}
 use Rattle.scheme.specs.Dealing.{image_at, map_holds}
 use Rattle.mapped_judging.proofs.Products.{is-image}
+use Rattle.mapped_judging.proofs.map_holds.Invariants.{mapped}
 use Rattle.mapped_judging.proofs.map_holds.Goals as goal
 
-abbrev mapped : Setup → List ℕ → List ℕ → List ℕ → ℕ → Bool
-mapped S h phi h2 k = eqb (at h2 k) (image_at S phi (at h) k)
 
 pub loop-k-init : goal.loop-k-init
 unfolding every

@@ -20,12 +20,12 @@ loop-q-init c = (search rules, rw sub-zero refl)
 pub returns-then-not-fixes : goal.returns-then-not-fixes
 returns-then-not-fixes c =
     let lacks : ℕ → Bool = λ j. let x = c.args in not (flat_fixes x.rows x.width x.d (buffers x.a.now x.used.now) j) in
-    sym (first-stop lacks c.loop-q.q _ (omega arith) (ap not (sym c.fixes.ensures) ∙ c.if-not-fixes.true)) ∙ c.loop-q.invariant.1
+    sym (first-stop lacks c.loop-q.q _ (omega arith) (ap not (sym c.fixes.ensures ∙ c.if-not-fixes.true))) ∙ c.loop-q.invariant.1
 
 pub loop-q-preserved : goal.loop-q-preserved
 loop-q-preserved c =
     let lacks : ℕ → Bool = λ j. let x = c.args in not (flat_fixes x.rows x.width x.d (buffers x.a.now x.used.now) j) in
-    (search rules, sym (first_step lacks c.loop-q.q _ (omega arith) (ap not (sym c.fixes.ensures) ∙ c.if-not-fixes.false)) ∙ c.loop-q.invariant.1)
+    (search rules, sym (first_step lacks c.loop-q.q _ (omega arith) (ap not (sym c.fixes.ensures ∙ c.if-not-fixes.false))) ∙ c.loop-q.invariant.1)
 
 pub returns : goal.returns
 returns c =

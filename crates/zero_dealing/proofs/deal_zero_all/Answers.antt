@@ -66,7 +66,7 @@ write_all-requires c =
     let lent : length (zeros setup) ≡ setup.n * dim setup = length-take-le (setup.n * dim setup) (replicate 512 0) (columns-few setup ok.0.setup) in
     let x = c.args in
     let S = setup in
-    let k = ok in let both = all_room S _ _ (zero-array S _ k.0 _ c.fill_zero.ensures) k.0.setup x.gs.now (zeros S) k.1 lent in record { all_room = both.0; below = both.1; below_2 = both.2; p_value = both.3 }
+    let k = ok in let both = all_room S _ _ (zero-array S _ k.0 _ c.fill_zero.ensures) k.0.setup x.gs.now (zeros S) k.1 lent in record { all_room = both.0; below = both.1.0; below_2 = both.1.1.0; p_value = both.1.1.1 }
 
 pub slice_bounds-keep_last-end : goal.slice_bounds-keep_last-end
 slice_bounds-keep_last-end c =
