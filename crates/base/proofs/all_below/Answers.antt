@@ -1,5 +1,5 @@
 -- The mark `over` is 0 exactly while every entry passed is below p.
-use Prim.Native.Nat.{ℕ, ◌-◌}
+use Prim.Native.Nat.{ℕ}
 use mathlib.Core.Path.{◌≡◌}
 use mathlib.Core.Bool.{Bool}
 use native.Mathlib.Omega.{arith}
