@@ -9,10 +9,10 @@ pub returns-in-Is : goal.returns-in-Is
 returns-in-Is c =
     let s = c.args in
     let r = c.read_mapped_dealing.ensures in
-    let e = ap paper_dealing_read (sym c.in-Is.is) ∙ r.answer in let both = (ap (λ (a : Answer). a.number) e, (ap (λ (a : Answer). place 0 a s.dealing.now) e, (ap (λ (a : Answer). place 1 a s.holder.now) e, r.1))) in record { answer = both.0; dealing = both.1.0; holder = both.1.1.0; row = both.1.1.1.0; column = both.1.1.1.1.0; map = both.1.1.1.1.1 }
+    let e = ap paper_dealing_read (sym c.in-Is.is) ∙ r.answer in let both = (ap (λ (a : Answer). a.number) e, (ap (λ (a : Answer). place 0 a s.dealing.now) e, (ap (λ (a : Answer). place 1 a s.holder.now) e, r.1))) in record { answer = both.0; dealing = both.1; holder = both.2; row = both.3; column = both.4; map = both.5 }
 
 pub returns-in-Refused : goal.returns-in-Refused
 returns-in-Refused c =
     let s = c.args in
     let r = c.read_mapped_dealing.ensures in
-    let e = ap paper_dealing_read (sym c.in-Refused.is) ∙ r.answer in let both = (ap (λ (a : Answer). a.number) e, (ap (λ (a : Answer). place 0 a s.dealing.now) e, (ap (λ (a : Answer). place 1 a s.holder.now) e, r.1))) in record { answer = both.0; dealing = both.1.0; holder = both.1.1.0; row = both.1.1.1.0; column = both.1.1.1.1.0; map = both.1.1.1.1.1 }
+    let e = ap paper_dealing_read (sym c.in-Refused.is) ∙ r.answer in let both = (ap (λ (a : Answer). a.number) e, (ap (λ (a : Answer). place 0 a s.dealing.now) e, (ap (λ (a : Answer). place 1 a s.holder.now) e, r.1))) in record { answer = both.0; dealing = both.1; holder = both.2; row = both.3; column = both.4; map = both.5 }

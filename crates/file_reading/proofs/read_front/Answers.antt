@@ -2,7 +2,7 @@
 use Prim.Native.Nat.{ℕ, ◌+◌, ◌-◌, ◌*◌, ◌≤◌, ◌<◌}
 use mathlib.Core.Bool.{Bool}
 use mathlib.Core.List.{List, []}
-use mathlib.Core.Path.{◌≡◌, sym, ap, subst, ◌∙◌}
+use mathlib.Core.Path.{◌≡◌, refl, sym, ap, subst, ◌∙◌}
 use native.Mathlib.Omega.{arith}
 use borrow.Author.Tests.{le-ltb, eq-eqb, ne_eqb}
 use lib.Dec.{eqb}
@@ -17,7 +17,7 @@ use Rattle.file_reading.specs.declared.Front.{Front}
 use Rattle.file_reading.specs.Contents.{columns, part_layout}
 use Rattle.file_reading.specs.File.{refused_at, setup_fault, has_zero, dealing_fault, read_file}
 use Rattle.file_reading.specs.Inner.{part_of, zero_in, ReadsFront}
-use Rattle.file_reading.proofs.Steps.{setup-11, setup-own, setup-clear, part-size, zero-mark, is_second, deal-11, deal-3, deal-10, deal-own, file-refused}
+use Rattle.file_reading.proofs.Steps.{setup-11, setup-own, setup-clear, part-size, zero-mark, is_second, deal-11, deal-3, deal-10, deal-own, file-refused, file-dealing-refused}
 use Rattle.file_reading.proofs.read_front.Goals as goal
 
 refused : (s : List ℕ) (f : Front) → (f.refusal ≡ 0 → ⊥) → refused_at f.refusal f.byte ≡ read_file s → ReadsFront s f
@@ -83,6 +83,8 @@ returns-then-file-at c =
     let end : ℕ = 10 + 2 * (params.n * (params.l + params.e)) in
     let params_are : params ≡ params_at file = c.params_at-s.ensures in
     let end_is : end ≡ setup_size (setup_at file) = ap (λ (p : Params). 10 + 2 * (p.n * (p.l + p.e))) params_are in
+    let fair : setup_fault file ≡ 0 = sym (setup-own file c.if-file-eq0.false) ∙ sym c.setup_refusal.ensures ∙ c.if-front-ne0.false in
+    let dealing-refused : (k : ℕ) → (k ≡ 0 → ⊥) → k ≡ dealing_fault (setup_at file) (part_of file) → refused_at k end ≡ read_file file = λ k n e. ap (refused_at k) end_is ∙ file-dealing-refused file fair (setup_at file) refl k e n in
     let s = file in
     refused s _ (λ z. omega (arith, z))
     (dealing-refused 11 (λ z. omega (arith, z)) (deal-11 (setup_at s) (part_of s) (omega (arith, length-drop (setup_size (setup_at s)) s, end_is, c.if-file-at.true))))
@@ -94,6 +96,8 @@ returns-then-t-lt2 c =
     let end : ℕ = 10 + 2 * (params.n * (params.l + params.e)) in
     let params_are : params ≡ params_at file = c.params_at-s.ensures in
     let end_is : end ≡ setup_size (setup_at file) = ap (λ (p : Params). 10 + 2 * (p.n * (p.l + p.e))) params_are in
+    let fair : setup_fault file ≡ 0 = sym (setup-own file c.if-file-eq0.false) ∙ sym c.setup_refusal.ensures ∙ c.if-front-ne0.false in
+    let dealing-refused : (k : ℕ) → (k ≡ 0 → ⊥) → k ≡ dealing_fault (setup_at file) (part_of file) → refused_at k end ≡ read_file file = λ k n e. ap (refused_at k) end_is ∙ file-dealing-refused file fair (setup_at file) refl k e n in
     let some : length (part_of file) ≡ 0 → ⊥ = λ z. omega (arith, z, c.if-file-at.false, end_is, length-drop (setup_size (setup_at file)) file) in
     let part_same : let s = file in take (length s - end) (drop end s) ≡ part_of s = part-is file end ∙ ap (λ (k : ℕ). drop k file) end_is in
     let s = file in
@@ -108,6 +112,8 @@ returns-then-mark-eq-MARK_SU c =
     let end : ℕ = 10 + 2 * (params.n * (params.l + params.e)) in
     let params_are : params ≡ params_at file = c.params_at-s.ensures in
     let end_is : end ≡ setup_size (setup_at file) = ap (λ (p : Params). 10 + 2 * (p.n * (p.l + p.e))) params_are in
+    let fair : setup_fault file ≡ 0 = sym (setup-own file c.if-file-eq0.false) ∙ sym c.setup_refusal.ensures ∙ c.if-front-ne0.false in
+    let dealing-refused : (k : ℕ) → (k ≡ 0 → ⊥) → k ≡ dealing_fault (setup_at file) (part_of file) → refused_at k end ≡ read_file file = λ k n e. ap (refused_at k) end_is ∙ file-dealing-refused file fair (setup_at file) refl k e n in
     let some : length (part_of file) ≡ 0 → ⊥ = λ z. omega (arith, z, c.if-file-at.false, end_is, length-drop (setup_size (setup_at file)) file) in
     let part_same : let s = file in take (length s - end) (drop end s) ≡ part_of s = part-is file end ∙ ap (λ (k : ℕ). drop k file) end_is in
     let second : is_second (part_of file) ≡ eqb c.word-mark.result mark_su = sym (ap is_second part_same) ∙ rw (le-ltb _ 2 c.if-t-lt2.false) (ap (λ (w : ℕ). eqb w mark_su) (sym c.word-mark.ensures)) in
@@ -122,6 +128,8 @@ returns-then-front-ne0-2 c =
     let end : ℕ = 10 + 2 * (params.n * (params.l + params.e)) in
     let params_are : params ≡ params_at file = c.params_at-s.ensures in
     let end_is : end ≡ setup_size (setup_at file) = ap (λ (p : Params). 10 + 2 * (p.n * (p.l + p.e))) params_are in
+    let fair : setup_fault file ≡ 0 = sym (setup-own file c.if-file-eq0.false) ∙ sym c.setup_refusal.ensures ∙ c.if-front-ne0.false in
+    let dealing-refused : (k : ℕ) → (k ≡ 0 → ⊥) → k ≡ dealing_fault (setup_at file) (part_of file) → refused_at k end ≡ read_file file = λ k n e. ap (refused_at k) end_is ∙ file-dealing-refused file fair (setup_at file) refl k e n in
     let part_same : let s = file in take (length s - end) (drop end s) ≡ part_of s = part-is file end ∙ ap (λ (k : ℕ). drop k file) end_is in
     let zero_same : eqb c.word-mark.result mark_dz ≡ zero_in file = ap (λ (w : ℕ). eqb w mark_dz) c.word-mark.ensures ∙ sym (zero-mark _ c.if-t-lt2.false) ∙ ap has_zero part_same in
     let some : length (part_of file) ≡ 0 → ⊥ = λ z. omega (arith, z, c.if-file-at.false, end_is, length-drop (setup_size (setup_at file)) file) in

@@ -34,7 +34,7 @@ agree-requires c =
     let e = suc-mul c.loop-b.b c.args.k in
     (omega (arith, m, e, c.requires.le_k.1), omega (arith, m, e, c.requires.le_k.2)) in
     let p = c.requires in
-    let r = rows in record { le_k = (p.0.0, p.0.1, omega (arith, r.0), omega (arith, r.1)); depots = p.1.0; below = p.1.1.1.1.1; below_2 = p.1.1.1.0 }
+    let r = rows in record { le_k = (p.le_k.0, p.le_k.1, omega (arith, r.0), omega (arith, r.1)); depots = p.depots; below = p.below_3; below_2 = p.below_2 }
 
 pub returns-then-not-agree : goal.returns-then-not-agree
 returns-then-not-agree c =

@@ -14,7 +14,7 @@ use Rattle.key_values.proofs.Laws.{sums_none, sums_next, below-dot}
 use Rattle.key_values.proofs.expected.Goals as goal
 
 pub loop-a-init : goal.loop-a-init
-loop-a-init c = (search rules, sums_none (λ s. at c.args.t3 (at c.args.members.now s)) (λ s. away c.args.inverses.now (at c.args.members.now s)))
+loop-a-init c = (search rules, sums_none (λ s. at c.args.scaled (at c.args.members.now s)) (λ s. away c.args.inverses.now (at c.args.members.now s)))
 
 pub overflow_cast-j : goal.overflow_cast-j
 overflow_cast-j c = omega (arith, c.requires.depots.below c.loop-a.a c.loop-a-test.true)
@@ -39,7 +39,7 @@ loop-a-preserved c =
     let x = c.args in
     let ms = x.members.now in (
       search rules,
-      c.add16-next.ensures ∙ sums_next c.loop-a.a (λ k. at x.t3 (at ms k)) (λ k. away x.inverses.now (at ms k)) _ _ c.loop-a.invariant.1 c.away_from.ensures,
+      c.add16-next.ensures ∙ sums_next c.loop-a.a (λ k. at x.scaled (at ms k)) (λ k. away x.inverses.now (at ms k)) _ _ c.loop-a.invariant.1 c.away_from.ensures,
     )
 
 pub folded16-requires : goal.folded16-requires

@@ -11,7 +11,7 @@ slice_bounds-interpolate_by-end c = let w = c.walk-k.ensures in w.count ∙ ap l
 
 pub interpolate_by-requires : goal.interpolate_by-requires
 interpolate_by-requires c =
-    let p = c.requires in record { tables = tables _ _ refl (unfold every in refl) (unfold every in refl) (unfold every all_below in refl) (unfold every all_below in refl); ready = rw c.walk-k.ensures.list (ready _ _ p.0 p.1.0.0 p.1.0.1 p.1.1) }
+    let p = c.requires in record { tables = tables _ _ refl (unfold every in refl) (unfold every in refl) (unfold every all_below in refl) (unfold every all_below in refl); ready = rw c.walk-k.ensures.list (ready _ _ p.set_bound p.in_bounds.0 p.in_bounds.1 p.below) }
 
 pub returns : goal.returns
 returns c = rw c.walk-k.ensures.list at c.interpolate_by.ensures

@@ -9,17 +9,17 @@ weigh-w-requires c = record { depots = fewer c.requires.ready.rising c.requires.
 
 pub scale-scaled-requires : goal.scale-scaled-requires
 scale-scaled-requires c =
-    let p = c.requires in record { le_k = (p.1.seven, p.1.sixteen, p.1.size); depots = fewer p.1.rising p.1.seven; below = p.1.small; below_2 = lanes-below _ _ c.weigh-w.ensures.inverses_value }
+    let p = c.requires in record { le_k = (p.ready.seven, p.ready.sixteen, p.ready.size); depots = fewer p.ready.rising p.ready.seven; below = p.ready.small; below_2 = lanes-below _ _ c.weigh-w.ensures.inverses_value }
 
 pub read-values-requires : goal.read-values-requires
 read-values-requires c =
-    let p = c.requires in record { columns = columns-below _ _ c.scale-scaled.ensures; below = p.0.small; below_2 = lanes-below _ _ c.weigh-w.ensures.products_value }
+    let p = c.requires in record { columns = columns-below _ _ c.scale-scaled.ensures; below = p.tables.small; below_2 = lanes-below _ _ c.weigh-w.ensures.products_value }
 
 pub all_agree-consistent-requires : goal.all_agree-consistent-requires
 all_agree-consistent-requires c =
-    let p = c.requires in record { le_k = (p.1.seven, p.1.sixteen, p.1.size); depots = p.1.rising; below = p.0.below; below_2 = lanes-below _ _ c.weigh-w.ensures.inverses_value; columns = columns-below _ _ c.scale-scaled.ensures; below_3 = p.1.small }
+    let p = c.requires in record { le_k = (p.ready.seven, p.ready.sixteen, p.ready.size); depots = p.ready.rising; below = p.tables.below; below_2 = lanes-below _ _ c.weigh-w.ensures.inverses_value; columns = columns-below _ _ c.scale-scaled.ensures; below_3 = p.ready.small }
 
 pub returns : goal.returns
 returns c =
     let p = c.requires in
-    interpolates p.0 p.1 c.weigh-w.ensures.inverses_value c.weigh-w.ensures.products_value c.scale-scaled.ensures c.read-values.ensures c.all_agree-consistent.ensures
+    interpolates p.tables p.ready c.weigh-w.ensures.inverses_value c.weigh-w.ensures.products_value c.scale-scaled.ensures c.read-values.ensures c.all_agree-consistent.ensures

@@ -28,7 +28,7 @@ returns-then-q-s c =
 pub unsolved-requires : goal.unsolved-requires
 unsolved-requires c =
     let ok : OpenTaken (setup_of c.args.s c.args.matrix.now) c.args.set c.args.shares.now c.args.secrets.now = c.requires.open_taken in
-    let fits : Fits (length c.args.shares.now) (c.dim-d.result + 1) c.reduce_beside-q.last.a c.reduce_beside-q.last.used = let o = ok in
+    let fits : Fits (length c.args.shares.now) (c.dim-d.result + 1) c.reduce_beside-q.new.a c.reduce_beside-q.new.used = let o = ok in
     beside-fits o.set o.shares.size c.dim-d.ensures.0 c.reduce_beside-q.ensures.system in record { fits = fits; b_lt_width = omega arith }
 
 pub returns-then-unsolved-k : goal.returns-then-unsolved-k
@@ -40,7 +40,7 @@ returns-then-unsolved-k c =
 pub solution-requires : goal.solution-requires
 solution-requires c =
     let ok : OpenTaken (setup_of c.args.s c.args.matrix.now) c.args.set c.args.shares.now c.args.secrets.now = c.requires.open_taken in
-    let fits : Fits (length c.args.shares.now) (c.dim-d.result + 1) c.reduce_beside-q.last.a c.reduce_beside-q.last.used = let o = ok in
+    let fits : Fits (length c.args.shares.now) (c.dim-d.result + 1) c.reduce_beside-q.new.a c.reduce_beside-q.new.used = let o = ok in
     beside-fits o.set o.shares.size c.dim-d.ensures.0 c.reduce_beside-q.ensures.system in
     let o = ok in record { fits = fits; b_lt_width = (omega arith, omega (arith, o.room, secrets-few o)) }
 

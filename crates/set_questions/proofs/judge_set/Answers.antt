@@ -66,7 +66,7 @@ slice_bounds-seek_vector-end c =
     let none : refusal (judge_set_rules setup c.args.set c.args.position c.args.out.now) ≡ 0 = sym c.judge_set_refusal-refusal.ensures ∙ c.if-refusal-ne0.false in
     let ok : SetTaken setup c.args.set × (length c.args.out.now ≡ 32) × (c.args.position < c.args.s.l) = judge-taken setup c.args.set c.args.position c.args.out.now none in
     let zeros : c.clear.new.out ≡ replicate 32 0 = c.clear.ensures ∙ ap (λ n. replicate n 0) ok.1 in
-    let still-zeros : after-row ≡ replicate 32 0 = back c.size-k.result c.clear.last.out _ (c.seek_row-row.ensures.none c.if-row.false).1 ∙ zeros in
+    let still-zeros : after-row ≡ replicate 32 0 = back c.size-k.result c.clear.new.out _ (c.seek_row-row.ensures.none c.if-row.false).1 ∙ zeros in
     let vector-room : c.dim-d.result ≤ length after-row = omega (arith, ap length still-zeros, narrow ok.0, c.dim-d.ensures.0) in
     vector-room
 
@@ -77,7 +77,7 @@ slice_bounds-seek_vector-end-2 c =
     let none : refusal (judge_set_rules setup c.args.set c.args.position c.args.out.now) ≡ 0 = sym c.judge_set_refusal-refusal.ensures ∙ c.if-refusal-ne0.false in
     let ok : SetTaken setup c.args.set × (length c.args.out.now ≡ 32) × (c.args.position < c.args.s.l) = judge-taken setup c.args.set c.args.position c.args.out.now none in
     let zeros : c.clear.new.out ≡ replicate 32 0 = c.clear.ensures ∙ ap (λ n. replicate n 0) ok.1 in
-    let still-zeros : after-row ≡ replicate 32 0 = back c.size-k.result c.clear.last.out _ (c.seek_row-row.ensures.none c.if-row.false).1 ∙ zeros in
+    let still-zeros : after-row ≡ replicate 32 0 = back c.size-k.result c.clear.new.out _ (c.seek_row-row.ensures.none c.if-row.false).1 ∙ zeros in
     let vector-room : c.dim-d.result ≤ length after-row = omega (arith, ap length still-zeros, narrow ok.0, c.dim-d.ensures.0) in
     sym (length-take-le _ _ vector-room)
 
@@ -88,7 +88,7 @@ seek_vector-requires c =
     let ok : SetTaken setup c.args.set × (length c.args.out.now ≡ 32) × (c.args.position < c.args.s.l) = judge-taken setup c.args.set c.args.position c.args.out.now none in
     let after-row : List ℕ = c.seek_row-row.new.out ++ drop c.size-k.result c.clear.new.out in
     let zeros : c.clear.new.out ≡ replicate 32 0 = c.clear.ensures ∙ ap (λ n. replicate n 0) ok.1 in
-    let still-zeros : after-row ≡ replicate 32 0 = back c.size-k.result c.clear.last.out _ (c.seek_row-row.ensures.none c.if-row.false).1 ∙ zeros in
+    let still-zeros : after-row ≡ replicate 32 0 = back c.size-k.result c.clear.new.out _ (c.seek_row-row.ensures.none c.if-row.false).1 ∙ zeros in
     let vector-room : c.dim-d.result ≤ length after-row = omega (arith, ap length still-zeros, narrow ok.0, c.dim-d.ensures.0) in
     let h = ok in record { set_taken = h.0; q_lt_l = (h.2, length-take-le _ _ vector-room ∙ c.dim-d.ensures.0) }
 
@@ -99,7 +99,7 @@ returns-then-seek_vector c =
     let ok : SetTaken setup c.args.set × (length c.args.out.now ≡ 32) × (c.args.position < c.args.s.l) = judge-taken setup c.args.set c.args.position c.args.out.now none in
     let after-row : List ℕ = c.seek_row-row.new.out ++ drop c.size-k.result c.clear.new.out in
     let zeros : c.clear.new.out ≡ replicate 32 0 = c.clear.ensures ∙ ap (λ n. replicate n 0) ok.1 in
-    let still-zeros : after-row ≡ replicate 32 0 = back c.size-k.result c.clear.last.out _ (c.seek_row-row.ensures.none c.if-row.false).1 ∙ zeros in
+    let still-zeros : after-row ≡ replicate 32 0 = back c.size-k.result c.clear.new.out _ (c.seek_row-row.ensures.none c.if-row.false).1 ∙ zeros in
     let h = ok in
     let z = none in
     let r = c.seek_row-row.ensures in
@@ -112,7 +112,7 @@ returns c =
     let ok : SetTaken setup c.args.set × (length c.args.out.now ≡ 32) × (c.args.position < c.args.s.l) = judge-taken setup c.args.set c.args.position c.args.out.now none in
     let after-row : List ℕ = c.seek_row-row.new.out ++ drop c.size-k.result c.clear.new.out in
     let zeros : c.clear.new.out ≡ replicate 32 0 = c.clear.ensures ∙ ap (λ n. replicate n 0) ok.1 in
-    let still-zeros : after-row ≡ replicate 32 0 = back c.size-k.result c.clear.last.out _ (c.seek_row-row.ensures.none c.if-row.false).1 ∙ zeros in
+    let still-zeros : after-row ≡ replicate 32 0 = back c.size-k.result c.clear.new.out _ (c.seek_row-row.ensures.none c.if-row.false).1 ∙ zeros in
     let h = ok in
     let z = none in
     let n = c.seek_vector.ensures.none c.if-seek_vector.false in

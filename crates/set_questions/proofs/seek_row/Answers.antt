@@ -40,7 +40,7 @@ reduce_across-steps-requires c =
 
 pub unsolved-requires : goal.unsolved-requires
 unsolved-requires c =
-    let fits : Fits c.dim-d.result (length c.args.out.now + 1) c.reduce_across-steps.last.a c.reduce_across-steps.last.used = row_fits c.requires.set_taken c.requires.q_lt_l.0 c.reduce_across-steps.ensures c.requires.q_lt_l.1 c.dim-d.ensures.0 in record { fits = fits; b_lt_width = omega arith }
+    let fits : Fits c.dim-d.result (length c.args.out.now + 1) c.reduce_across-steps.new.a c.reduce_across-steps.new.used = row_fits c.requires.set_taken c.requires.q_lt_l.0 c.reduce_across-steps.ensures c.requires.q_lt_l.1 c.dim-d.ensures.0 in record { fits = fits; b_lt_width = omega arith }
 
 pub returns-then-unsolved-d : goal.returns-then-unsolved-d
 returns-then-unsolved-d c =
@@ -48,7 +48,7 @@ returns-then-unsolved-d c =
 
 pub solution-requires : goal.solution-requires
 solution-requires c =
-    let fits : Fits c.dim-d.result (length c.args.out.now + 1) c.reduce_across-steps.last.a c.reduce_across-steps.last.used = row_fits c.requires.set_taken c.requires.q_lt_l.0 c.reduce_across-steps.ensures c.requires.q_lt_l.1 c.dim-d.ensures.0 in
+    let fits : Fits c.dim-d.result (length c.args.out.now + 1) c.reduce_across-steps.new.a c.reduce_across-steps.new.used = row_fits c.requires.set_taken c.requires.q_lt_l.0 c.reduce_across-steps.ensures c.requires.q_lt_l.1 c.dim-d.ensures.0 in
     let has_room : Room (length c.args.out.now) c.dim-d.result = room c.requires.set_taken c.requires.q_lt_l.1 c.dim-d.ensures.0 in record { fits = fits; b_lt_width = (omega arith, omega (arith, has_room.members)) }
 
 pub returns : goal.returns

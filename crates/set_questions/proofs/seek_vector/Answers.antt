@@ -42,7 +42,7 @@ overflow_add-b c = omega (arith, narrow c.requires.set_taken, c.requires.q_lt_l.
 
 pub unsolved-requires : goal.unsolved-requires
 unsolved-requires c =
-    let fits : Fits c.size-k.result (length c.args.out.now) c.reduce_aside.last.a c.reduce_aside.last.used = vector-fits c.requires.set_taken c.reduce_aside.ensures c.size-k.ensures.0 c.requires.q_lt_l.1 in record { fits = fits; b_lt_width = omega (arith, c.requires.q_lt_l) }
+    let fits : Fits c.size-k.result (length c.args.out.now) c.reduce_aside.new.a c.reduce_aside.new.used = vector-fits c.requires.set_taken c.reduce_aside.ensures c.size-k.ensures.0 c.requires.q_lt_l.1 in record { fits = fits; b_lt_width = omega (arith, c.requires.q_lt_l) }
 
 pub returns-then-unsolved-k : goal.returns-then-unsolved-k
 returns-then-unsolved-k c =
@@ -50,7 +50,7 @@ returns-then-unsolved-k c =
 
 pub write_sweep-requires : goal.write_sweep-requires
 write_sweep-requires c =
-    let fits : Fits c.size-k.result (length c.args.out.now) c.reduce_aside.last.a c.reduce_aside.last.used = vector-fits c.requires.set_taken c.reduce_aside.ensures c.size-k.ensures.0 c.requires.q_lt_l.1 in record { fits = fits; below = c.reduce_aside.ensures.shows.below; q_in_bounds = omega (arith, c.requires.q_lt_l) }
+    let fits : Fits c.size-k.result (length c.args.out.now) c.reduce_aside.new.a c.reduce_aside.new.used = vector-fits c.requires.set_taken c.reduce_aside.ensures c.size-k.ensures.0 c.requires.q_lt_l.1 in record { fits = fits; below = c.reduce_aside.ensures.shows.below; q_in_bounds = omega (arith, c.requires.q_lt_l) }
 
 pub returns : goal.returns
 returns c =

@@ -26,15 +26,15 @@ pub returns-in-First : goal.returns-in-First
 returns-in-First c =
     let first-is : let x = c.args in given (1 ∷ []) ≡ superseding_call (setup_of x.s []) x.first.now x.second.now = ap paper_superseding (sym c.in-First.is) ∙ c.superseding_record.ensures in
     let x = c.args in
-    let r = first-chosen (setup_of x.s []) x.first.now x.second.now first-is in record { content = sym r.1; place = ap (λ (t : Bool). pick t x.second.ptr x.first.ptr) (sym r.2) }
+    let r = first-chosen (setup_of x.s []) x.first.now x.second.now first-is in record { content = sym r.1; place = ap (λ (t : Bool). pick t x.second.ref_ptr x.first.ref_ptr) (sym r.2) }
 
 pub returns-in-Second : goal.returns-in-Second
 returns-in-Second c =
     let second_is : let x = c.args in given (2 ∷ []) ≡ superseding_call (setup_of x.s []) x.first.now x.second.now = ap paper_superseding (sym c.in-Second.is) ∙ c.superseding_record.ensures in
     let x = c.args in
-    let r = second-chosen (setup_of x.s []) x.first.now x.second.now second_is in record { content = sym r.1; place = ap (λ (t : Bool). pick t x.second.ptr x.first.ptr) (sym r.2) }
+    let r = second-chosen (setup_of x.s []) x.first.now x.second.now second_is in record { content = sym r.1; place = ap (λ (t : Bool). pick t x.second.ref_ptr x.first.ref_ptr) (sym r.2) }
 
 pub returns-in-Refused : goal.returns-in-Refused
 returns-in-Refused c =
     let x = c.args in
-    let r = none (setup_of x.s []) x.first.now x.second.now _ (ap paper_superseding (sym c.in-Refused.is) ∙ c.superseding_record.ensures) in record { content = sym r.0; place = ap (λ (t : Bool). pick t x.second.ptr x.first.ptr) (sym r.1) }
+    let r = none (setup_of x.s []) x.first.now x.second.now _ (ap paper_superseding (sym c.in-Refused.is) ∙ c.superseding_record.ensures) in record { content = sym r.0; place = ap (λ (t : Bool). pick t x.second.ref_ptr x.first.ref_ptr) (sym r.1) }
