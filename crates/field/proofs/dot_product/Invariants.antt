@@ -1,7 +1,6 @@
 -- The sum so far is the product of the entries passed, at most 65535 * 65535 for each.
 use Prim.Native.Nat.{◌-◌, ◌*◌, ◌≤◌}
 use mathlib.Core.Path.{◌≡◌}
-use Rattle.base.specs.Sum.{sum}
 use Rattle.field.specs.Dot.{dot, along}
 use Rattle.field.proofs.dot_product.Given as goal
 

@@ -1,5 +1,5 @@
 -- a times `acc` is `cur` throughout; `cur` falls and stays above 0 because no number between 1 and the prime p divides it.
-use Prim.Native.Nat.{◌-◌, ◌*◌, ◌%◌, ◌<◌}
+use Prim.Native.Nat.{◌*◌, ◌%◌, ◌<◌}
 use mathlib.Core.Path.{◌≡◌}
 use Rattle.field.proofs.inverse_worked.Given as goal
 

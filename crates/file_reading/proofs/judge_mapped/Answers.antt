@@ -199,7 +199,13 @@ slice_bounds-matrix-end c =
     omega (arith, entries.0, c.read_matrix-matrix.ensures.0)
 
 pub slice_bounds-judgement_mapped-end : goal.slice_bounds-judgement_mapped-end
-slice_bounds-judgement_mapped-end c = sym (length-take-le _ _ (array-share-prefix-matrix «bare»c.before))
+slice_bounds-judgement_mapped-end c =
+    let parts : Parts = c.args.parts in
+    let params : Params = parts.setup in
+    let file : List ℕ = c.args.file.now in
+    let in_order : PartsIn file parts = c.requires.0 in
+    let entries : (params.n * (params.l + params.e) ≤ 512) × (params.l + params.e ≤ 16) × (params.l * params.l ≤ 64) = let z = small file parts in_order in (z.entries, z.width, z.map) in
+    sym (length-take-le _ _ (omega (arith, entries.0, c.read_matrix-matrix.ensures.0)))
 
 pub slice_bounds-h-end : goal.slice_bounds-h-end
 slice_bounds-h-end c =
@@ -214,7 +220,16 @@ slice_bounds-h-end c =
     omega (arith, entries.1, lists.h-size)
 
 pub slice_bounds-judgement_mapped-end-2 : goal.slice_bounds-judgement_mapped-end-2
-slice_bounds-judgement_mapped-end-2 c = sym (length-take-le _ _ (array-share-prefix-h «bare»c.before))
+slice_bounds-judgement_mapped-end-2 c =
+    let parts : Parts = c.args.parts in
+    let params : Params = parts.setup in
+    let file : List ℕ = c.args.file.now in
+    let in_order : PartsIn file parts = c.requires.0 in
+    let entries : (params.n * (params.l + params.e) ≤ 512) × (params.l + params.e ≤ 16) × (params.l * params.l ≤ 64) = let z = small file parts in_order in (z.entries, z.width, z.map) in
+    let at : ℕ = 10 + 2 * (params.n * (params.l + params.e)) in
+    let part_same : take (length file - at) (drop at file) ≡ part_of file = part-is file at ∙ ap (λ (k : ℕ). drop k file) (at-is file parts in_order) in
+    let lists : HoldsPart (setup_of params []) (params.l + params.e) (part_of file) c.read_part-lists.result = subst (λ (t : List ℕ). HoldsPart (setup_of params []) (params.l + params.e) t c.read_part-lists.result) part_same c.read_part-lists.ensures in
+    sym (length-take-le _ _ (omega (arith, entries.1, lists.h-size)))
 
 pub slice_bounds-values-end : goal.slice_bounds-values-end
 slice_bounds-values-end c =
@@ -224,7 +239,11 @@ slice_bounds-values-end c =
     omega (arith, few file parts in_order, in_order.values-size)
 
 pub slice_bounds-judgement_mapped-end-3 : goal.slice_bounds-judgement_mapped-end-3
-slice_bounds-judgement_mapped-end-3 c = sym (length-take-le _ _ (array-share-prefix-values «bare»c.before))
+slice_bounds-judgement_mapped-end-3 c =
+    let file : List ℕ = c.args.file.now in
+    let parts : Parts = c.args.parts in
+    let in_order : PartsIn file parts = c.requires.0 in
+    sym (length-take-le _ _ (omega (arith, few file parts in_order, in_order.values-size)))
 
 pub slice_bounds-phi-end : goal.slice_bounds-phi-end
 slice_bounds-phi-end c =
@@ -236,7 +255,13 @@ slice_bounds-phi-end c =
     omega (arith, entries.2, c.read_map-phi.ensures.0)
 
 pub slice_bounds-judgement_mapped-end-4 : goal.slice_bounds-judgement_mapped-end-4
-slice_bounds-judgement_mapped-end-4 c = sym (length-take-le _ _ (array-share-prefix-phi «bare»c.before))
+slice_bounds-judgement_mapped-end-4 c =
+    let parts : Parts = c.args.parts in
+    let params : Params = parts.setup in
+    let file : List ℕ = c.args.file.now in
+    let in_order : PartsIn file parts = c.requires.0 in
+    let entries : (params.n * (params.l + params.e) ≤ 512) × (params.l + params.e ≤ 16) × (params.l * params.l ≤ 64) = let z = small file parts in_order in (z.entries, z.width, z.map) in
+    sym (length-take-le _ _ (omega (arith, entries.2, c.read_map-phi.ensures.0)))
 
 pub slice_bounds-h2-end : goal.slice_bounds-h2-end
 slice_bounds-h2-end c =
@@ -252,7 +277,17 @@ slice_bounds-h2-end c =
     omega (arith, entries.1, lists2.h-size)
 
 pub slice_bounds-judgement_mapped-end-5 : goal.slice_bounds-judgement_mapped-end-5
-slice_bounds-judgement_mapped-end-5 c = sym (length-take-le _ _ (array-share-prefix-h2 «bare»c.before))
+slice_bounds-judgement_mapped-end-5 c =
+    let parts : Parts = c.args.parts in
+    let params : Params = parts.setup in
+    let file : List ℕ = c.args.file.now in
+    let in_order : PartsIn file parts = c.requires.0 in
+    let entries : (params.n * (params.l + params.e) ≤ 512) × (params.l + params.e ≤ 16) × (params.l * params.l ≤ 64) = let z = small file parts in_order in (z.entries, z.width, z.map) in
+    let behind : ℕ = 10 + 2 * (params.n * (params.l + params.e)) + 6 + 4 * (params.l + params.e) in
+    let no_zero : zero_in file ≡ false = first-is file parts in_order c.requires.1 in
+    let second-same : take (length file - behind) (drop behind file) ≡ second_of file = part-is file behind ∙ ap (λ (k : ℕ). drop k file) (behind-is file parts in_order no_zero) in
+    let lists2 : HoldsPart (setup_of params []) (params.l + params.e) (second_of file) c.read_part-second.result = subst (λ (t : List ℕ). HoldsPart (setup_of params []) (params.l + params.e) t c.read_part-second.result) second-same c.read_part-second.ensures in
+    sym (length-take-le _ _ (omega (arith, entries.1, lists2.h-size)))
 
 pub slice_bounds-values2-end : goal.slice_bounds-values2-end
 slice_bounds-values2-end c =
@@ -262,7 +297,11 @@ slice_bounds-values2-end c =
     omega (arith, few file parts in_order, in_order.values2-size)
 
 pub slice_bounds-judgement_mapped-end-6 : goal.slice_bounds-judgement_mapped-end-6
-slice_bounds-judgement_mapped-end-6 c = sym (length-take-le _ _ (array-share-prefix-values2 «bare»c.before))
+slice_bounds-judgement_mapped-end-6 c =
+    let file : List ℕ = c.args.file.now in
+    let parts : Parts = c.args.parts in
+    let in_order : PartsIn file parts = c.requires.0 in
+    sym (length-take-le _ _ (omega (arith, few file parts in_order, in_order.values2-size)))
 
 pub judgement_mapped-judgement-requires : goal.judgement_mapped-judgement-requires
 judgement_mapped-judgement-requires c =

@@ -96,7 +96,13 @@ slice_bounds-matrix-end c =
     omega (arith, entries, c.read_matrix-matrix.ensures.0)
 
 pub slice_bounds-judgement_zero-end : goal.slice_bounds-judgement_zero-end
-slice_bounds-judgement_zero-end c = sym (length-take-le _ _ (array-share-prefix-matrix «bare»c.before))
+slice_bounds-judgement_zero-end c =
+    let parts : Parts = c.args.parts in
+    let params : Params = parts.setup in
+    let file : List ℕ = c.args.file.now in
+    let in_order : PartsIn file parts = c.requires.0 in
+    let entries : params.n * (params.l + params.e) ≤ 512 = (small file parts in_order).entries in
+    sym (length-take-le _ _ (omega (arith, entries, c.read_matrix-matrix.ensures.0)))
 
 pub slice_bounds-h-end : goal.slice_bounds-h-end
 slice_bounds-h-end c =
@@ -110,7 +116,15 @@ slice_bounds-h-end c =
     omega (arith, (small file parts in_order).width, lists.h-size)
 
 pub slice_bounds-judgement_zero-end-2 : goal.slice_bounds-judgement_zero-end-2
-slice_bounds-judgement_zero-end-2 c = sym (length-take-le _ _ (array-share-prefix-h «bare»c.before))
+slice_bounds-judgement_zero-end-2 c =
+    let file : List ℕ = c.args.file.now in
+    let parts : Parts = c.args.parts in
+    let in_order : PartsIn file parts = c.requires.0 in
+    let params : Params = parts.setup in
+    let at : ℕ = 10 + 2 * (params.n * (params.l + params.e)) in
+    let part_same : take (length file - at) (drop at file) ≡ part_of file = part-is file at ∙ ap (λ (k : ℕ). drop k file) (at-is file parts in_order) in
+    let lists : HoldsPart (setup_of params []) params.e (part_of file) c.read_part-lists.result = subst (λ (t : List ℕ). HoldsPart (setup_of params []) params.e t c.read_part-lists.result) part_same c.read_part-lists.ensures in
+    sym (length-take-le _ _ (omega (arith, (small file parts in_order).width, lists.h-size)))
 
 pub slice_bounds-values-end : goal.slice_bounds-values-end
 slice_bounds-values-end c =
@@ -120,7 +134,11 @@ slice_bounds-values-end c =
     omega (arith, few file parts in_order, in_order.values-size)
 
 pub slice_bounds-judgement_zero-end-3 : goal.slice_bounds-judgement_zero-end-3
-slice_bounds-judgement_zero-end-3 c = sym (length-take-le _ _ (array-share-prefix-values «bare»c.before))
+slice_bounds-judgement_zero-end-3 c =
+    let file : List ℕ = c.args.file.now in
+    let parts : Parts = c.args.parts in
+    let in_order : PartsIn file parts = c.requires.0 in
+    sym (length-take-le _ _ (omega (arith, few file parts in_order, in_order.values-size)))
 
 pub judgement_zero-judgement-requires : goal.judgement_zero-judgement-requires
 judgement_zero-judgement-requires c =

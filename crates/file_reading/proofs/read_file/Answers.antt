@@ -37,13 +37,18 @@ slice_bounds-verdicts-end c =
     omega (arith, few file c.read_parts-parts.result parts, parts.verdicts-size)
 
 pub slice_bounds-fate-end : goal.slice_bounds-fate-end
-slice_bounds-fate-end c = sym (length-take-le _ _ (array-share-prefix-verdicts «bare»c.before))
+slice_bounds-fate-end c =
+    let file : List ℕ = c.args.file.now in
+    let parts : PartsIn file c.read_parts-parts.result = c.read_parts-parts.ensures.next c.if-parts-ne0.false in
+    sym (length-take-le _ _ (omega (arith, few file c.read_parts-parts.result parts, parts.verdicts-size)))
 
 pub fate-fate-requires : goal.fate-fate-requires
 fate-fate-requires c =
     let params : Params = c.read_parts-parts.result.setup in
     let verdicts : List ℕ = c.read_parts-parts.result.verdicts in
-    omega (arith, length-take-le params.n verdicts (array-share-prefix-verdicts «bare»c.before))
+    let file : List ℕ = c.args.file.now in
+    let parts : PartsIn file c.read_parts-parts.result = c.read_parts-parts.ensures.next c.if-parts-ne0.false in
+    omega (arith, length-take-le params.n verdicts (omega (arith, few file c.read_parts-parts.result parts, parts.verdicts-size)))
 
 pub judge_parts-judged-requires : goal.judge_parts-judged-requires
 judge_parts-judged-requires c =

@@ -189,9 +189,9 @@ returns c =
     record {
       refused = λ n. absurd (n c.if-front-ne0-2.false);
       next = λ _. record {
-        fair = record { setup = fair; «bare»dealing = sym own ∙ c.if-front-ne0-2.false };
+        fair = record { setup = fair; dealing = sym own ∙ c.if-front-ne0-2.false };
         setup = e;
-        «bare»dealing = c.dealing_at-record.ensures ∙ ap dealing_at part_same;
+        dealing = c.dealing_at-record.ensures ∙ ap dealing_at part_same;
         zero = zero_same;
         byte = omega (
           arith,

@@ -2,10 +2,11 @@
 use mathlib.Core.Path.{sym}
 use native.Mathlib.Omega.{arith}
 use lib.Seq.{length-take-le}
+use borrow.Author.Rules.{rules}
 use Rattle.holder.proofs.main.Goals as goal
 
 pub slice_bounds-print-end : goal.slice_bounds-print-end
-slice_bounds-print-end c = sym (length-take-le _ _ (array-share-prefix-file «bare»c.before))
+slice_bounds-print-end c = sym (length-take-le _ _ (search rules))
 
 pub print-requires : goal.print-requires
 print-requires c =

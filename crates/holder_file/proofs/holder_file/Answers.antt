@@ -52,7 +52,10 @@ slice_bounds-shares-end c =
     omega (arith, fits.0, fits.1.0)
 
 pub slice_bounds-print_told-end : goal.slice_bounds-print_told-end
-slice_bounds-print_told-end c = sym (length-take-le _ _ (array-share-prefix-shares «bare»c.before))
+slice_bounds-print_told-end c =
+    let file : List ℕ = c.args.file.now in
+    let fits : let t = c.read_file-r.result.told in (t.setup.l ≤ 8) × ((length t.shares ≡ 8) × (length t.shares2 ≡ 8)) = told-fits file _ c.read_file-r.ensures c.if-k-ne0.false in
+    sym (length-take-le _ _ (omega (arith, fits.0, fits.1.0)))
 
 pub slice_bounds-shares2-end : goal.slice_bounds-shares2-end
 slice_bounds-shares2-end c =
@@ -63,7 +66,12 @@ slice_bounds-shares2-end c =
     omega (arith, few, fits.1.1)
 
 pub slice_bounds-print_told-end-2 : goal.slice_bounds-print_told-end-2
-slice_bounds-print_told-end-2 c = sym (length-take-le _ _ (array-share-prefix-shares2 «bare»c.before))
+slice_bounds-print_told-end-2 c =
+    let file : List ℕ = c.args.file.now in
+    let fits : let t = c.read_file-r.result.told in (t.setup.l ≤ 8) × ((length t.shares ≡ 8) × (length t.shares2 ≡ 8)) = told-fits file _ c.read_file-r.ensures c.if-k-ne0.false in
+    let few : c.mapped_lines-m.result ≤ 8 = let t = c.read_file-r.result.told in
+    omega (arith, c.mapped_lines-m.ensures, picked (λ k. k ≤ 8) t.mapped t.setup.l 0 fits.0 (omega arith)) in
+    sym (length-take-le _ _ (omega (arith, few, fits.1.1)))
 
 pub print_told-count-requires : goal.print_told-count-requires
 print_told-count-requires c =
@@ -76,8 +84,8 @@ print_told-count-requires c =
     let lent : c.lent_refusal-refusal.result ≡ declines = c.lent_refusal-refusal.ensures buffer refl in
     let fair : declines ≡ 0 = sym lent ∙ c.if-refusal-ne0.false in
     let t = c.read_file-r.result.told in (
-      omega (arith, fits.0, length-take-le t.setup.l t.shares (array-share-prefix-shares «bare»m)),
-      omega (arith, few, length-take-le c.mapped_lines-m.result t.shares2 (array-share-prefix-shares2 «bare»one)),
+      omega (arith, fits.0, length-take-le t.setup.l t.shares (omega (arith, fits.0, fits.1.0))),
+      omega (arith, few, length-take-le c.mapped_lines-m.result t.shares2 (omega (arith, few, fits.1.1))),
       omega (arith, (lent-means file buffer 512 fair).1),
     )
 

@@ -1,6 +1,7 @@
 -- The columns before b agree.
 use Prim.Native.Nat.{◌+◌, ◌-◌, ◌*◌, ◌≤◌}
-use mathlib.Core.Bool.{true}
+use mathlib.Core.Bool.{true, not}
+use mathlib.Core.Path.{ap}
 use native.Mathlib.Nat.{mul-le-mul_right, suc-mul}
 use native.Mathlib.Omega.{arith}
 use borrow.Author.Rules.{rules}
@@ -38,14 +39,14 @@ agree-requires c =
 
 pub returns-then-not-agree : goal.returns-then-not-agree
 returns-then-not-agree c =
-    let (x, l, m, h) = agreed-no _ _ _ (rw c.expected-wanted.ensures at c.agree.ensures) c.if-not-agree.true in
+    let (x, l, m, h) = agreed-no _ _ _ (rw c.expected-wanted.ensures at c.agree.ensures) (ap not c.if-not-agree.true) in
     differs c.loop-b.b x c.loop-b-test.true l m h
 
 pub loop-b-preserved : goal.loop-b-preserved
 loop-b-preserved c = (
   search rules,
   λ d x l m n. either d c.loop-b.b _
-      (λ e. rw (e) (rw c.expected-wanted.ensures at (agreed-yes _ _ _ c.agree.ensures c.if-not-agree.false x m n)))
+      (λ e. rw (e) (rw c.expected-wanted.ensures at (agreed-yes _ _ _ c.agree.ensures (ap not c.if-not-agree.false) x m n)))
       (λ h. c.loop-b.invariant.1 d x (omega (arith, l, h)) m n),
 )
 

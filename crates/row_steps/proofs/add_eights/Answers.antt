@@ -1,5 +1,4 @@
 -- Each turn goes on with the row by eight entries, and every entry stays below p.
-use Prim.Native.Nat.{◌-◌}
 use native.Mathlib.Omega.{arith}
 use borrow.Author.Rules.{rules}
 use Rattle.row_steps.proofs.Rows.{add_none, below-add, add_parts}

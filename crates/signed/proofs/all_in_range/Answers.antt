@@ -15,6 +15,7 @@ use Rattle.base.proofs.Search.{every-passed, every-failed}
 use Rattle.signed.specs.Integers.{integer_at}
 use Rattle.signed.specs.Corrections.{in_range, all_in_range}
 use Rattle.signed.proofs.all_in_range.Goals as goal
+use Rattle.signed.proofs.all_in_range.Goals.{then-not-in_range, else-not-in_range}
 
 -- what was read is the list's entry, since it fits an i32
 
@@ -29,9 +30,10 @@ loop-i-preserved c =
     let t : ℕ → Bool = λ k. in_range (integer_at x.s.now k) in
     let e : c.in_range.result ≡ t c.loop-i.i = rw (← read) c.in_range.ensures in (
       search rules,
-      ⊎_elim (λ w. every-failed t c.loop-i.i c.if-not-in_range.over (sym e ∙ not-true _ w.0.true) w.1)
-          (λ w. rw w.1 (every-passed t c.loop-i.i c.loop-i.over (sym e ∙ not-false _ w.0.false) c.loop-i.invariant.1))
-          c.if-not-in_range.branch-raw,
+      elim c.if-not-in_range.branch [
+        then-not-in_range w ↦ every-failed t c.loop-i.i c.if-not-in_range.over (sym e ∙ w.if-not-in_range.true) w.over-is
+      | else-not-in_range w ↦ rw w.over-is (every-passed t c.loop-i.i c.loop-i.over (sym e ∙ w.if-not-in_range.false) c.loop-i.invariant.1)
+      ],
     )
 
 pub returns : goal.returns

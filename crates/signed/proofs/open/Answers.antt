@@ -43,7 +43,7 @@ returns-then-not-answered c =
     let as_lent : let k = length c.args.corrections.now in length plain ≡ pick (ltb k 9) k 9 = sym (part-size _ 9 room) ∙ c.room_for-room.ensures in
     let same : let x = c.args in open_call setup x.set x.shares.now x.rounds.now plain ≡ open_signed_call setup x.set x.shares.now x.rounds.now x.corrections.now = let x = c.args in as-open setup x.set x.shares.now x.rounds.now x.corrections.now plain c.if-s-ne65521.false as_lent in
     let x = c.args in
-    let q = ap (λ (a : Answer). a.answered) (sym c.open-opened.ensures.result_value) ∙ sym c.answered.ensures ∙ not-true _ c.if-not-answered.true in record { result_value = c.open-opened.ensures.result_value ∙ same; corrections_after = left_out setup x.set x.shares.now x.rounds.now x.corrections.now plain c.if-s-ne65521.false as_lent q }
+    let q = ap (λ (a : Answer). a.answered) (sym c.open-opened.ensures.result_value) ∙ sym c.answered.ensures ∙ c.if-not-answered.true in record { result_value = c.open-opened.ensures.result_value ∙ same; corrections_after = left_out setup x.set x.shares.now x.rounds.now x.corrections.now plain c.if-s-ne65521.false as_lent q }
 
 pub slice_bounds-secrets-end-2 : goal.slice_bounds-secrets-end-2
 slice_bounds-secrets-end-2 c =
@@ -55,7 +55,7 @@ slice_bounds-secrets-end-2 c =
     let gave : c.answered.result ≡ true → let x = c.args in Read setup x.set x.shares.now x.rounds.now x.corrections.now plain c.if-s-ne65521.false as_lent = λ q. let x = c.args in
     left-read setup x.set x.shares.now x.rounds.now x.corrections.now plain c.if-s-ne65521.false as_lent
     (ap (λ (a : Answer). a.answered) (sym c.open-opened.ensures.result_value) ∙ sym c.answered.ensures ∙ q) in
-    let size : length left ≡ c.room_for-room.result = ap length c.open-opened.ensures.secrets_after ∙ (gave (not-false _ c.if-not-answered.false)).size ∙ sym (part-size _ 9 room) in
+    let size : length left ≡ c.room_for-room.result = ap length c.open-opened.ensures.secrets_after ∙ (gave (c.if-not-answered.false)).size ∙ sym (part-size _ 9 room) in
     front_fits _ left _ size
 
 pub slice_bounds-read_all-end : goal.slice_bounds-read_all-end
@@ -69,7 +69,7 @@ slice_bounds-read_all-end c =
     let gave : c.answered.result ≡ true → let x = c.args in Read setup x.set x.shares.now x.rounds.now x.corrections.now plain c.if-s-ne65521.false as_lent = λ q. let x = c.args in
     left-read setup x.set x.shares.now x.rounds.now x.corrections.now plain c.if-s-ne65521.false as_lent
     (ap (λ (a : Answer). a.answered) (sym c.open-opened.ensures.result_value) ∙ sym c.answered.ensures ∙ q) in
-    let size : length left ≡ c.room_for-room.result = ap length c.open-opened.ensures.secrets_after ∙ (gave (not-false _ c.if-not-answered.false)).size ∙ sym (part-size _ 9 room) in
+    let size : length left ≡ c.room_for-room.result = ap length c.open-opened.ensures.secrets_after ∙ (gave (c.if-not-answered.false)).size ∙ sym (part-size _ 9 room) in
     let begins : take c.room_for-room.result buffer ≡ left = front _ left _ size in
     sym (ap length begins ∙ size)
 
@@ -84,9 +84,9 @@ read_all-requires c =
     (ap (λ (a : Answer). a.answered) (sym c.open-opened.ensures.result_value) ∙ sym c.answered.ensures ∙ q) in
     let left : List ℕ = c.open-opened.new.secrets in
     let buffer : List ℕ = left ++ drop c.room_for-room.result (zeros 9) in
-    let size : length left ≡ c.room_for-room.result = ap length c.open-opened.ensures.secrets_after ∙ (gave (not-false _ c.if-not-answered.false)).size ∙ sym (part-size _ 9 room) in
+    let size : length left ≡ c.room_for-room.result = ap length c.open-opened.ensures.secrets_after ∙ (gave (c.if-not-answered.false)).size ∙ sym (part-size _ 9 room) in
     let begins : take c.room_for-room.result buffer ≡ left = front _ left _ size in
-    let g = gave (not-false _ c.if-not-answered.false) in
+    let g = gave (c.if-not-answered.false) in
     let l = begins ∙ c.open-opened.ensures.secrets_after in record { held_value = rw l g.below; integers_len = rw l g.room }
 
 pub returns : goal.returns
@@ -101,6 +101,6 @@ returns c =
     let same : let x = c.args in open_call setup x.set x.shares.now x.rounds.now plain ≡ open_signed_call setup x.set x.shares.now x.rounds.now x.corrections.now = let x = c.args in as-open setup x.set x.shares.now x.rounds.now x.corrections.now plain c.if-s-ne65521.false as_lent in
     let left : List ℕ = c.open-opened.new.secrets in
     let buffer : List ℕ = left ++ drop c.room_for-room.result (zeros 9) in
-    let size : length left ≡ c.room_for-room.result = ap length c.open-opened.ensures.secrets_after ∙ (gave (not-false _ c.if-not-answered.false)).size ∙ sym (part-size _ 9 room) in
+    let size : length left ≡ c.room_for-room.result = ap length c.open-opened.ensures.secrets_after ∙ (gave (c.if-not-answered.false)).size ∙ sym (part-size _ 9 room) in
     let begins : take c.room_for-room.result buffer ≡ left = front _ left _ size in
-    let g = gave (not-false _ c.if-not-answered.false) in record { result_value = c.open-opened.ensures.result_value ∙ same; corrections_after = c.read_all.ensures ∙ ap corrections (begins ∙ c.open-opened.ensures.secrets_after) ∙ g.is }
+    let g = gave (c.if-not-answered.false) in record { result_value = c.open-opened.ensures.result_value ∙ same; corrections_after = c.read_all.ensures ∙ ap corrections (begins ∙ c.open-opened.ensures.secrets_after) ∙ g.is }

@@ -30,7 +30,7 @@ loop-i-preserved c =
     (
       search rules,
       length-set c.loop-i.integers c.loop-i.i (to_z w32 (of_z w32 c.correction-x.result)) ∙ c.loop-i.invariant.1,
-      filled-store _ _ _ _ _ c.loop-i.invariant.2 (rw (to_z-of_z {w = w32} (record { sfits = c.correction-x.type-inv })) c.correction-x.ensures),
+      filled-store _ _ _ _ _ c.loop-i.invariant.2 (rw (to_z-of_z {w = w32} (record { sfits = c.correction-x.type_inv })) c.correction-x.ensures),
     )
 
 pub returns : goal.returns
