@@ -19,6 +19,7 @@ use Rattle.file_reading.specs.Inner.{zero_in, second_of, tied_in, contents_read,
 use Rattle.file_reading.proofs.Steps.{dealing-fair, tells-refused, tells-whole, of-13, of-whole, fate-same, kept-shares, no-shares, told_is, has-own, kind-mapped, kind-zero}
 use Rattle.file_reading.proofs.Judged.{few}
 use Rattle.file_reading.proofs.read_file.Goals as goal
+use Rattle.file_reading.proofs.read_file.Goals.{in-Accept, in-Reject, in-RejectMap}
 
 -- THE PLACES from the end back to there
 
@@ -73,9 +74,12 @@ returns-then-verdicts-i c =
     let said : get_or verdicts c.read_parts-parts.result.record.holder 0 ≡ get_or contents.verdicts contents.holder 0 = sym (get_or-take (setup_at file).n verdicts _ 0 holder-below)
     ∙ ap (λ (x : DealingRecord). get_or contents.verdicts x.holder 0) parts.dealing in
     let own-judged : JudgedIn contents c.judge_parts-judged.result = c.judge_parts-judged.ensures in
-    let own_is : c.match-judgement.own ≡ verdict_of (judgement contents) = ⊎_elim (λ w. w.2 ∙ sym (ap verdict_of w.1.given.1))
-    (⊎_elim (λ w. w.2 ∙ sym (ap verdict_of w.1.given.1)) (λ w. w.2 ∙ sym (ap verdict_of w.1.given.1))) c.match-judgement.branch-raw
-    ∙ ap verdict_of own-judged.judgement in
+    let own-by : c.match-judgement.own ≡ verdict_of c.judge_parts-judged.result.judgement = elim c.match-judgement.branch [
+      in-Accept w ↦ w.own-is ∙ sym (ap verdict_of w.in-Accept.is)
+    | in-Reject w ↦ w.own-is ∙ sym (ap verdict_of w.in-Reject.is)
+    | in-RejectMap w ↦ w.own-is ∙ sym (ap verdict_of w.in-RejectMap.is)
+    ] in
+    let own_is : c.match-judgement.own ≡ verdict_of (judgement contents) = own-by ∙ ap verdict_of own-judged.judgement in
     tells-refused 13 (length file) _ (read_file file)
     (of-13 contents (length file) (λ e. c.if-verdicts-i.true (said ∙ e ∙ sym own_is)) ∙ parts.is)
 
@@ -92,9 +96,12 @@ returns-in-Kept c =
     let holder-below : c.read_parts-parts.result.record.holder < (setup_at file).n = omega (arith, (dealing-fair file parts.fair).0, ap (λ (x : DealingRecord). x.holder) parts.dealing) in
     let said : get_or verdicts c.read_parts-parts.result.record.holder 0 ≡ get_or contents.verdicts contents.holder 0 = sym (get_or-take (setup_at file).n verdicts _ 0 holder-below)
     ∙ ap (λ (x : DealingRecord). get_or contents.verdicts x.holder 0) parts.dealing in
-    let own_is : c.match-judgement.own ≡ verdict_of (judgement contents) = ⊎_elim (λ w. w.2 ∙ sym (ap verdict_of w.1.given.1))
-    (⊎_elim (λ w. w.2 ∙ sym (ap verdict_of w.1.given.1)) (λ w. w.2 ∙ sym (ap verdict_of w.1.given.1))) c.match-judgement.branch-raw
-    ∙ ap verdict_of own-judged.judgement in
+    let own-by : c.match-judgement.own ≡ verdict_of c.judge_parts-judged.result.judgement = elim c.match-judgement.branch [
+      in-Accept w ↦ w.own-is ∙ sym (ap verdict_of w.in-Accept.is)
+    | in-Reject w ↦ w.own-is ∙ sym (ap verdict_of w.in-Reject.is)
+    | in-RejectMap w ↦ w.own-is ∙ sym (ap verdict_of w.in-RejectMap.is)
+    ] in
+    let own_is : c.match-judgement.own ≡ verdict_of (judgement contents) = own-by ∙ ap verdict_of own-judged.judgement in
     let agreed : reads.whole contents ≡ read_file file = of-whole contents (length file) (sym said ∙ c.if-verdicts-i.false ∙ own_is) ∙ parts.is in
     let tied : c.read_parts-parts.result.mapped ≡ is_mapped contents.kind = let S = setup_at file in
     parts.mapped ∙ kind-mapped S (zero_in file) (tied_in file) (second_of file) (take S.n c.read_parts-parts.result.values2) in
@@ -121,9 +128,12 @@ returns-in-Aborted c =
     let holder-below : c.read_parts-parts.result.record.holder < (setup_at file).n = omega (arith, (dealing-fair file parts.fair).0, ap (λ (x : DealingRecord). x.holder) parts.dealing) in
     let said : get_or verdicts c.read_parts-parts.result.record.holder 0 ≡ get_or contents.verdicts contents.holder 0 = sym (get_or-take (setup_at file).n verdicts _ 0 holder-below)
     ∙ ap (λ (x : DealingRecord). get_or contents.verdicts x.holder 0) parts.dealing in
-    let own_is : c.match-judgement.own ≡ verdict_of (judgement contents) = ⊎_elim (λ w. w.2 ∙ sym (ap verdict_of w.1.given.1))
-    (⊎_elim (λ w. w.2 ∙ sym (ap verdict_of w.1.given.1)) (λ w. w.2 ∙ sym (ap verdict_of w.1.given.1))) c.match-judgement.branch-raw
-    ∙ ap verdict_of own-judged.judgement in
+    let own-by : c.match-judgement.own ≡ verdict_of c.judge_parts-judged.result.judgement = elim c.match-judgement.branch [
+      in-Accept w ↦ w.own-is ∙ sym (ap verdict_of w.in-Accept.is)
+    | in-Reject w ↦ w.own-is ∙ sym (ap verdict_of w.in-Reject.is)
+    | in-RejectMap w ↦ w.own-is ∙ sym (ap verdict_of w.in-RejectMap.is)
+    ] in
+    let own_is : c.match-judgement.own ≡ verdict_of (judgement contents) = own-by ∙ ap verdict_of own-judged.judgement in
     let agreed : reads.whole contents ≡ read_file file = of-whole contents (length file) (sym said ∙ c.if-verdicts-i.false ∙ own_is) ∙ parts.is in
     let tied : c.read_parts-parts.result.mapped ≡ is_mapped contents.kind = let S = setup_at file in
     parts.mapped ∙ kind-mapped S (zero_in file) (tied_in file) (second_of file) (take S.n c.read_parts-parts.result.values2) in

@@ -1,6 +1,5 @@
 -- The parts of the holders from `first` to i are written, each at its place.
-use Prim.Native.Nat.{◌*◌, ◌-◌}
-use mathlib.Core.Logic.{⊎_elim}
+use Prim.Native.Nat.{◌*◌}
 use mathlib.Core.Path.{◌≡◌, refl, ap, ◌∙◌}
 use native.Mathlib.Nat.{le_antisymm}
 use native.Mathlib.Omega.{arith}

@@ -1,5 +1,4 @@
 -- The first j entries are written; each is the product of row i and line j of F.
-use Prim.Native.Nat.{◌-◌}
 use native.Mathlib.Nat.{le_antisymm}
 use native.Mathlib.Omega.{arith}
 use borrow.Author.Rules.{rules}
