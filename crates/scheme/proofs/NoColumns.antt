@@ -1,6 +1,6 @@
 -- Combining no shares: two empty lists pass the table, and their sum is 0; every row of M takes the vector of zeros to that share.
 use mathlib.Core.Path.{◌≡◌, refl, sym, ap, ◌∙◌}
-use mathlib.Core.Bool.{true, false}
+use mathlib.Core.Bool.{true}
 use mathlib.Core.List.{List, [], ◌∷◌}
 use Prim.Native.Nat.{ℕ, ◌%◌, ◌<◌}
 use native.Mathlib.Nat.{zero-mod}

@@ -9,7 +9,7 @@ use lib.Dec.{eqb, ltb}
 use borrow.Author.Tests.{eqb-true, eq-eqb, ltb-false, le-ltb, not-false}
 use Rattle.base.specs.Choice.{pick}
 use Rattle.base.specs.Rules.{Answer}
-use Rattle.base.specs.Search.{first, every}
+use Rattle.base.specs.Search.{first}
 use Rattle.base.proofs.Search.{missing-all, first-missing, every-at, every-all}
 use Rattle.field.specs.Dot.{at}
 use Rattle.scheme.specs.Setup.{Setup}

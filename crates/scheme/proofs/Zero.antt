@@ -11,7 +11,7 @@ use lib.Arith.{digits_lt}
 use lib.Dec.{eqb, ltb}
 use lib.ListN.{length}
 use Rattle.base.specs.Choice.{pick}
-use Rattle.base.specs.Search.{first, Vec}
+use Rattle.base.specs.Search.{Vec}
 use Rattle.base.specs.Fill.{tab}
 use Rattle.base.specs.Matrix.{entry, flat}
 use Rattle.base.proofs.Sum.{sum-split, sum-ext, sum-none}

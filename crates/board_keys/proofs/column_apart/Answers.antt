@@ -13,6 +13,7 @@ use Rattle.base.specs.Search.{every}
 use Rattle.base.proofs.Search.{every-passed, every-failed}
 use Rattle.board_keys.proofs.Rounds.{agree-tab}
 use Rattle.board_keys.proofs.column_apart.Goals as goal
+use Rattle.board_keys.proofs.column_apart.Goals.{then-rounds-from, else-rounds-from}
 
 pub loop-i-init : goal.loop-i-init
 unfolding every
@@ -25,9 +26,10 @@ loop-i-preserved c =
     let t : ℕ → Bool = λ a. eqb (get_or rs (x.from + a) 0) (get_or rs (x.from + 0) 0) in
     let z : get_or rs x.from 0 ≡ get_or rs (x.from + 0) 0 = ap (λ n. get_or rs n 0) (sym (add-zero x.from)) in (
       search rules,
-      ⊎_elim (λ w. every-failed t c.loop-i.i c.if-rounds-from.other (ne_eqb _ _ (λ e. w.0.true (e ∙ sym z))) w.1)
-          (λ w. rw w.1 (every-passed t c.loop-i.i c.loop-i.other (eq-eqb _ _ (w.0.false ∙ z)) c.loop-i.invariant.1))
-          c.if-rounds-from.branch-raw,
+      elim c.if-rounds-from.branch [
+        then-rounds-from w ↦ every-failed t c.loop-i.i c.if-rounds-from.other (ne_eqb _ _ (λ e. w.if-rounds-from.true (e ∙ sym z))) w.other-is
+      | else-rounds-from w ↦ rw w.other-is (every-passed t c.loop-i.i c.loop-i.other (eq-eqb _ _ (w.if-rounds-from.false ∙ z)) c.loop-i.invariant.1)
+      ],
     )
 
 pub returns : goal.returns

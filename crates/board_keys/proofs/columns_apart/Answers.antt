@@ -14,6 +14,7 @@ use Rattle.base.proofs.Matrix.{row_fits}
 use Rattle.scheme.specs.Opening.{agree}
 use Rattle.board_keys.proofs.Rounds.{one-round}
 use Rattle.board_keys.proofs.columns_apart.Goals as goal
+use Rattle.board_keys.proofs.columns_apart.Goals.{then-column_apart, else-column_apart}
 
 pub returns-then-all_are : goal.returns-then-all_are
 returns-then-all_are c =
@@ -38,9 +39,10 @@ loop-b-preserved c =
     let x = c.args in
     let t : ℕ → Bool = λ b. agree (tab x.k (entry x.k x.rounds.now b)) in (
       search rules,
-      ⊎_elim (λ w. every-failed t c.loop-b.b c.if-column_apart.apart (not-true _ (sym c.column_apart.ensures ∙ w.0.true)) w.1)
-          (λ w. rw w.1 (every-passed t c.loop-b.b c.loop-b.apart (not-false _ (sym c.column_apart.ensures ∙ w.0.false)) c.loop-b.invariant.1))
-          c.if-column_apart.branch-raw,
+      elim c.if-column_apart.branch [
+        then-column_apart w ↦ every-failed t c.loop-b.b c.if-column_apart.apart (not-true _ (sym c.column_apart.ensures ∙ w.if-column_apart.true)) w.apart-is
+      | else-column_apart w ↦ rw w.apart-is (every-passed t c.loop-b.b c.loop-b.apart (not-false _ (sym c.column_apart.ensures ∙ w.if-column_apart.false)) c.loop-b.invariant.1)
+      ],
     )
 
 pub returns : goal.returns

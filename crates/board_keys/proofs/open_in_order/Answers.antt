@@ -12,18 +12,18 @@ pub returns-then-size-lt7 : goal.returns-then-size-lt7
 returns-then-size-lt7 c = let both = ends-few c.args.set c.args.shares.now c.args.key.now c.requires _ c.size.ensures.0 c.if-size-lt7.true in record { result_value = both.0; key_after = both.1 }
 
 pub interpolate-found-requires : goal.interpolate-found-requires
-interpolate-found-requires c = let both = asked c.args.set c.args.shares.now c.args.key.now c.requires _ c.size.ensures.0 c.if-size-lt7.false in record { set_bound = both.0; in_bounds = both.1; below = both.2 }
+interpolate-found-requires c = let both = asked c.args.set c.args.shares.now c.args.key.now c.requires _ c.size.ensures.0 c.if-size-lt7.false in record { set_bound = both.0; in_bounds = both.1.0; below = both.1.1 }
 
 pub returns-then-not-consistent : goal.returns-then-not-consistent
-returns-then-not-consistent c = let both = ends-differs c.args.set c.args.shares.now c.args.key.now c.requires _ c.size.ensures.0 c.if-size-lt7.false c.interpolate-found.ensures c.if-not-consistent.true in record { result_value = both.0; key_after = both.1 }
+returns-then-not-consistent c = let both = ends-differs c.args.set c.args.shares.now c.args.key.now c.requires _ c.size.ensures.0 c.if-size-lt7.false c.interpolate-found.ensures (ap not c.if-not-consistent.true) in record { result_value = both.0; key_after = both.1 }
 
 pub returns-then-not-all_below : goal.returns-then-not-all_below
 returns-then-not-all_below c = let both = ends-no-byte c.args.set c.args.shares.now c.args.key.now c.requires _ c.size.ensures.0 c.if-size-lt7.false c.interpolate-found.ensures
-    c.if-not-consistent.false (ap not (sym c.all_below.ensures) ∙ c.if-not-all_below.true) in record { result_value = both.0; key_after = both.1 }
+    (ap not c.if-not-consistent.false) (ap not (sym c.all_below.ensures ∙ c.if-not-all_below.true)) in record { result_value = both.0; key_after = both.1 }
 
 pub write_bytes-requires : goal.write_bytes-requires
-write_bytes-requires c = record { key_len = c.requires.room; below = below_by 256 _ (omega arith) (sym c.all_below.ensures ∙ not-false _ c.if-not-all_below.false) }
+write_bytes-requires c = record { key_len = c.requires.room; below = below_by 256 _ (omega arith) (sym c.all_below.ensures ∙ c.if-not-all_below.false) }
 
 pub returns : goal.returns
 returns c = let both = ends-key c.args.set c.args.shares.now c.args.key.now c.requires _ c.size.ensures.0 c.if-size-lt7.false c.interpolate-found.ensures
-    c.if-not-consistent.false (ap not (sym c.all_below.ensures) ∙ c.if-not-all_below.false) c.write_bytes.ensures in record { result_value = both.0; key_after = both.1 }
+    (ap not c.if-not-consistent.false) (ap not (sym c.all_below.ensures ∙ c.if-not-all_below.false)) c.write_bytes.ensures in record { result_value = both.0; key_after = both.1 }

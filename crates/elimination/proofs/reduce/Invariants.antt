@@ -3,7 +3,6 @@ use Prim.Native.Nat.{◌-◌, ◌≤◌}
 use mathlib.Core.Path.{◌≡◌}
 use lib.ListN.{length}
 use Rattle.elimination.specs.Inner.{Reduction}
-use Rattle.elimination.proofs.reduce.Tie as tie
 use Rattle.elimination.proofs.reduce.Given as goal
 
 abbrev pub invariant-loop-col : goal.invariant-loop-col

@@ -1,9 +1,7 @@
 -- The first a shares stand at their places.
-use Prim.Native.Nat.{◌-◌}
 use native.Mathlib.Nat.{le_antisymm}
 use native.Mathlib.Omega.{arith}
 use borrow.Author.Rules.{rules}
-use Rattle.field.specs.Dot.{at}
 use Rattle.key_weights.proofs.Lanes.{place_none, place-next}
 use Rattle.key_weights.proofs.placed.Goals as goal
 
