@@ -4,7 +4,7 @@
 ghost use Rattle.std.specs.Prelude.{◌≡◌, ◌≤◌, length};
 ghost use Rattle.holder_file.specs.Text.{file_text};
 
-use libc::{STDERR_FILENO, STDIN_FILENO, STDOUT_FILENO};
+use std::io::Read;
 
 // How much was read, and whether a read failed.
 #[derive(Clone, Copy)]
@@ -14,23 +14,22 @@ struct Input {
 }
 
 // One read.
-fn read_once(part: &mut [u8]) -> Input
+fn read_once<R: Read>(source: &mut R, part: &mut [u8]) -> Input
     ensures { result.len ≤ length part.new }
 {
-    let got = libc::read(STDIN_FILENO, part);
-    Input {
-        len: io::count(got, part),
-        failed: got < 0,
+    match source.read(part) {
+        Ok(len) => Input { len, failed: false },
+        Err(_) => Input { len: 0, failed: true },
     }
 }
 
 // Reads until the buffer is full, the input ends or a read fails.
-fn read(buffer: &mut [u8]) -> Input
+fn read<R: Read>(source: &mut R, buffer: &mut [u8]) -> Input
     ensures { (result.len ≤ length buffer.new) × (length buffer.new ≡ length buffer.old) }
 {
     let mut len = 0;
     while len < buffer.len() {
-        let more = read_once(&mut buffer[len..]);
+        let more = read_once(source, &mut buffer[len..]);
         if more.failed {
             return Input { len, failed: true };
         }
@@ -43,30 +42,30 @@ fn read(buffer: &mut [u8]) -> Input
 }
 
 // Writes what is printed of the file, and says so where it cannot.
-fn write(file: &[u8], text: &[u8])
+fn write(rt: &(impl Print + Eprint), file: &[u8], text: &[u8])
     requires { text.now ≡ file_text file.now }
 {
-    if !io::write_all(STDOUT_FILENO, text) {
-        io::write_all(STDERR_FILENO, b"holder: cannot write\n");
+    if rt.write_all(text).is_err() {
+        let _ = rt.eprintln("holder: cannot write");
     }
 }
 
 // Prints a file.
-fn print(file: &[u8])
+fn print(rt: &(impl Print + Eprint), file: &[u8])
     requires { length file.now ≤ 4096 }
 {
     let mut text = [0u8; 512];
     let count = holder_file::print_file(file, &mut text);
-    write(file, &text[..count]);
+    write(rt, file, &text[..count]);
 }
 
-fn main() {
-    let mut file = io::buffer();
-    let input = read(&mut file);
+fn main(rt: HostRuntime) {
+    let mut file = [0u8; 4096];
+    let input = read(&mut rt.stdin(), &mut file);
     if input.failed {
-        io::write_all(STDERR_FILENO, b"holder: cannot read\n");
+        let _ = rt.eprintln("holder: cannot read");
         return;
     }
     let len = input.len;
-    print(&file[..len]);
+    print(&rt, &file[..len]);
 }

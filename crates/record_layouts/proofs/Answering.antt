@@ -25,7 +25,7 @@ use Rattle.record_layouts.specs.Records.{parts, dealing_words, dealing_size, dea
 use Rattle.record_layouts.specs.Records.{mark_pv, mark_pf, pair_size, pair_at, pair_values, pair_faults, pair_layout_of, pair_layout, mapped_pair_layout, verdict_words, verdict_size, verdict_faults, verdict_layout, share_words, share_size, share_faults, share_layout}
 use Rattle.record_layouts.specs.Records.{zero_words, zero_size, zero_layout, zero_lent, read_zero_rules}
 use Rattle.record_layouts.specs.Records.{mapped_parts, mapped_words, mapped_size, mapped_layout, mapped_lent, read_mapped_rules}
-use Rattle.record_layouts.specs.Answering.{RecordsMarked, WritersRising, DealingInOrder, ZeroInOrder, PairInOrder, VerdictInOrder, ShareInOrder, RecordsAnswering}
+use Rattle.record_layouts.specs.Answering.{RecordsMarked, WritersRising, PairInOrder, VerdictInOrder, ShareInOrder, RecordsAnswering}
 use Rattle.record_layouts.proofs.Layouts.{dealing-lawful, zero_lawful, mapped-lawful, pair-lawful, verdict-lawful, share-lawful}
 use Rattle.record_layouts.proofs.Calls.{matrix-as-setup}
 use Rattle.record_layouts.proofs.ReadBack.{fair, setup-at, setup-fair}

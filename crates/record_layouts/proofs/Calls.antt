@@ -15,7 +15,6 @@ use Rattle.scheme.specs.declared.Params.{Params}
 use Rattle.scheme.specs.Setup.{Setup, dim, Limits, IsSetup}
 use Rattle.scheme.specs.Calls.{Lent, limits, size, beyond_field}
 use Rattle.scheme.proofs.Calls.{limits-are, limits-pos, size_is, size-clear, vec_of, InOrder, in_order}
-use Rattle.record_layouts.specs.declared.DealingRecord.{DealingRecord}
 use Rattle.record_words.specs.Words.{word_at, words_at}
 use Rattle.record_words.proofs.Words.{length-words, below-words, every-none}
 use Rattle.record_layouts.specs.Records.{due, Layout, mark_su, setup_size, setup_at, due_setup, read_setup_rules, read_matrix_rules, params_at, lists_rules, standing_rules, read_rules}

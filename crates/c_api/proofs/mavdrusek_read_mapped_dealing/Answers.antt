@@ -9,10 +9,26 @@ pub returns-in-Is : goal.returns-in-Is
 returns-in-Is c =
     let s = c.args in
     let r = c.read_mapped_dealing.ensures in
-    let e = ap paper_dealing_read (sym c.in-Is.is) ∙ r.answer in let both = (ap (λ (a : Answer). a.number) e, (ap (λ (a : Answer). place 0 a s.dealing.now) e, (ap (λ (a : Answer). place 1 a s.holder.now) e, r.1))) in record { answer = both.0; dealing = both.1; holder = both.2; row = both.3; column = both.4; map = both.5 }
+    let e = ap paper_dealing_read (sym c.in-Is.is) ∙ r.answer in
+    record {
+      answer = ap (λ (a : Answer). a.number) e;
+      dealing = ap (λ (a : Answer). place 0 a s.dealing.now) e;
+      holder = ap (λ (a : Answer). place 1 a s.holder.now) e;
+      row = r.row;
+      column = r.column;
+      map = r.map;
+    }
 
 pub returns-in-Refused : goal.returns-in-Refused
 returns-in-Refused c =
     let s = c.args in
     let r = c.read_mapped_dealing.ensures in
-    let e = ap paper_dealing_read (sym c.in-Refused.is) ∙ r.answer in let both = (ap (λ (a : Answer). a.number) e, (ap (λ (a : Answer). place 0 a s.dealing.now) e, (ap (λ (a : Answer). place 1 a s.holder.now) e, r.1))) in record { answer = both.0; dealing = both.1; holder = both.2; row = both.3; column = both.4; map = both.5 }
+    let e = ap paper_dealing_read (sym c.in-Refused.is) ∙ r.answer in
+    record {
+      answer = ap (λ (a : Answer). a.number) e;
+      dealing = ap (λ (a : Answer). place 0 a s.dealing.now) e;
+      holder = ap (λ (a : Answer). place 1 a s.holder.now) e;
+      row = r.row;
+      column = r.column;
+      map = r.map;
+    }

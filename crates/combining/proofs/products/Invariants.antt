@@ -2,7 +2,6 @@
 use Prim.Native.Nat.{◌-◌, ◌*◌, ◌≤◌}
 use mathlib.Core.Path.{◌≡◌}
 use lib.ListN.{length}
-use Rattle.base.specs.Sum.{sum}
 use Rattle.field.specs.Dot.{at, dot}
 use Rattle.combining.proofs.products.Given as goal
 

@@ -5,7 +5,7 @@ use lib.ListN.{length}
 use Rattle.holder.proofs.read.Given as goal
 
 abbrev pub invariant-loop-len : goal.invariant-loop-len
-invariant-loop-len l = (l.len ≤ length l.buffer) × (length l.buffer ≡ length l.initial.buffer)
+invariant-loop-len g l = (l.len ≤ length l.buffer) × (length l.buffer ≡ length l.initial.buffer)
 
 abbrev pub decreases-loop-len : goal.decreases-loop-len
-decreases-loop-len l = length l.buffer - l.len
+decreases-loop-len g l = length l.buffer - l.len

@@ -1,7 +1,5 @@
 -- The loops go through the pairs in their order: what the search gives from the place i * n + j on is what it gives of the whole, and the two products
 -- are the pair value and the value due.
-use Prim.Native.Nat.{◌-◌}
-use mathlib.Core.Logic.{⊎_elim}
 use mathlib.Core.Path.{sym, ◌∙◌}
 use native.Mathlib.Omega.{arith}
 use Rattle.scheme.specs.Setup.{setup_of}

@@ -1,5 +1,4 @@
 -- The search from holder j on is the search of the whole, and the product is the value due.
-use Prim.Native.Nat.{◌-◌}
 use mathlib.Core.Bool.{not}
 use mathlib.Core.Path.{sym, ap, ◌∙◌}
 use native.Mathlib.Nat.{sub-zero}

@@ -1,5 +1,4 @@
 -- The product so far is the basis over the nodes passed, reduced.
-use Prim.Native.Nat.{◌-◌}
 use mathlib.Core.Path.{sym}
 use native.Mathlib.Nat.{mod-eq_of_lt, le_antisymm}
 use borrow.Author.Rules.{rules}

@@ -1,5 +1,4 @@
 -- The first i rows are those of the points matrix.
-use Prim.Native.Nat.{◌-◌}
 use native.Mathlib.Nat.{le_antisymm}
 use borrow.Author.Rules.{rules}
 use lib.ListN.{length-set}

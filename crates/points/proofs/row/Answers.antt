@@ -1,12 +1,10 @@
 -- The first j entries are those of row i.
-use Prim.Native.Nat.{◌-◌}
 use mathlib.Core.Path.{ap, ◌∙◌}
 use native.Mathlib.Nat.{le_antisymm}
 use native.Mathlib.Omega.{arith}
 use borrow.Author.Rules.{rules}
 use lib.ListN.{get_or}
 use Rattle.base.proofs.Fill.{filled_none, filled-store}
-use Rattle.polynomial.specs.Polynomial.{point}
 use Rattle.points.specs.Inner.{zeros, points_row}
 use Rattle.points.proofs.Grid.{weights-at}
 use Rattle.points.proofs.row.Goals as goal

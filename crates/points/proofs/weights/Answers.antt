@@ -1,5 +1,4 @@
 -- The first j entries are the weights of the first j nodes.
-use Prim.Native.Nat.{◌-◌}
 use native.Mathlib.Nat.{le_antisymm}
 use native.Mathlib.Omega.{arith}
 use borrow.Author.Rules.{rules}

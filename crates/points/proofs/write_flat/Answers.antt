@@ -1,5 +1,4 @@
 -- The first i rows stand in the matrix, one after the other.
-use Prim.Native.Nat.{◌-◌}
 use mathlib.Core.Path.{ap, ◌∙◌}
 use native.Mathlib.Nat.{le_antisymm, zero-mul, zero-add}
 use native.Mathlib.Omega.{arith}

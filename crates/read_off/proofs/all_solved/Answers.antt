@@ -1,19 +1,16 @@
 -- The columns passed so far are solved; the first that is not ends the loop.
 -- column k behind the pivot columns is solved
-use Prim.Native.Nat.{ℕ, ◌+◌, ◌-◌}
+use Prim.Native.Nat.{ℕ}
 use mathlib.Core.Path.{refl, sym, ◌∙◌}
-use mathlib.Core.Bool.{Bool, true}
-use mathlib.Core.List.{List}
+use mathlib.Core.Bool.{Bool}
 use native.Mathlib.Omega.{arith}
 use borrow.Author.Rules.{rules}
 use borrow.Author.Tests.{le-leb, lt-leb}
-use lib.Dec.{leb}
 use Rattle.base.specs.Search.{every}
 use Rattle.base.proofs.Choice.{and_both}
 use Rattle.base.proofs.Search.{every-step, every-at, every-all, every-fails}
 use Rattle.elimination.specs.Elimination.{flat_pivot}
-use Rattle.elimination.specs.Inner.{buffers}
-use Rattle.read_off.specs.ReadOff.{flat_unsolved, all_solved, flat_all_solved}
+use Rattle.read_off.specs.ReadOff.{all_solved, flat_all_solved}
 use Rattle.read_off.proofs.all_solved.Invariants.{solved}
 use Rattle.read_off.proofs.all_solved.Goals as goal
 

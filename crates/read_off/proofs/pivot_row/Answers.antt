@@ -1,5 +1,5 @@
 -- The search from here is the search of the whole.
-use Prim.Native.Nat.{ℕ, ◌-◌, suc}
+use Prim.Native.Nat.{ℕ, suc}
 use mathlib.Core.Path.{refl, sym, ◌∙◌}
 use mathlib.Core.Bool.{Bool}
 use native.Mathlib.Omega.{arith}
