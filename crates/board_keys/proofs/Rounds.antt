@@ -1,7 +1,7 @@
 -- Rounds of a key, column by column.
 -- agree-tab: a list's rounds agree exactly where each is the first
 -- one-round: all the rounds one number, so those of each column
-use mathlib.Core.Path.{◌≡◌, refl, sym, ap, ◌∙◌}
+use mathlib.Core.Path.{◌≡◌, refl, ap, ◌∙◌}
 use mathlib.Core.Bool.{true, false}
 use mathlib.Core.List.{List, [], ◌∷◌}
 use Prim.Native.Nat.{ℕ, ◌+◌, ◌*◌, ◌<◌}

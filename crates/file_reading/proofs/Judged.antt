@@ -9,17 +9,17 @@ use mathlib.Core.Bool.{Bool, true, false}
 use mathlib.Core.List.{List, []}
 use mathlib.Core.Path.{◌≡◌, refl, sym, ap, ◌∙◌}
 use native.Mathlib.Omega.{arith}
-use lib.ListN.{length, take, drop, replicate, length-drop}
+use lib.ListN.{length, take, replicate}
 use Rattle.base.specs.Rules.{refusal}
 use Rattle.scheme.specs.declared.Params.{Params}
 use Rattle.scheme.specs.declared.Judgement.{Judgement}
 use Rattle.scheme.specs.Setup.{Setup, dim, IsSetup, setup_of}
 use Rattle.base.specs.Search.{Vec}
-use Rattle.scheme.specs.Dealing.{judgement_of, judgement_mapped, judgement_zero, shares}
+use Rattle.scheme.specs.Dealing.{judgement_of, judgement_mapped, judgement_zero}
 use Rattle.scheme.specs.Calls.{judge_rules, judge_mapped_rules, judge_zero_rules}
 use Rattle.scheme.proofs.Calls.{judge-accepts, judge_mapped-accepts, judge_zero-accepts}
 use Rattle.record_words.specs.Words.{words_at}
-use Rattle.record_layouts.specs.Records.{params_at, setup_at, setup_size, mapped_size, dealing_at, dealing_g, dealing_h, zero_h, parts_h, mapped_phi}
+use Rattle.record_layouts.specs.Records.{setup_at, setup_size, mapped_size, dealing_at, dealing_g, dealing_h, zero_h, parts_h, mapped_phi}
 use Rattle.file_records.specs.declared.PartLists.{PartLists}
 use Rattle.file_records.specs.Inner.{Small, HoldsPart}
 use Rattle.file_reading.specs.declared.Parts.{Parts}

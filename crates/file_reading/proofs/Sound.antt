@@ -23,7 +23,7 @@ use Rattle.scheme.proofs.Calls.{limits-clear, limits-pos, below-vec, size-clear,
 use Rattle.record_words.specs.Words.{bytes, word_at, Bytes}
 use Rattle.record_words.proofs.Words.{length-bytes, word_of}
 use Rattle.record_layouts.specs.declared.DealingRecord.{DealingRecord}
-use Rattle.record_layouts.specs.Records.{DealingParts, parts, mark_su, mark_dl, mark_dz, mark_pv, mark_pf, mark_df, setup_words, mapped_words, all_words, pair_layout_of, verdict_words, setup_size, mapped_size, dealing_at, dealing_g, parts_h, read_setup_rules, standing_rules, dealing_faults, mapped_layout}
+use Rattle.record_layouts.specs.Records.{DealingParts, parts, mark_su, mark_dl, mark_dz, mark_pv, mark_pf, mark_df, setup_words, mapped_words, all_words, pair_layout_of, verdict_words, setup_size, mapped_size, dealing_at, dealing_g, parts_h, standing_rules, dealing_faults, mapped_layout}
 use Rattle.record_layouts.proofs.Calls.{dim-small, matrix-small}
 use Rattle.record_layouts.proofs.Layouts.{mapped_at, mapped-row-at, mapped-column-at, mapped-phi-at}
 use Rattle.record_layouts.proofs.ReadBack.{setup-at, setup-fair, stands, mapped-fair}

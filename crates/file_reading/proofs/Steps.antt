@@ -12,7 +12,7 @@ use lib.Seq.{get_or-take, length-take-le}
 use Rattle.base.specs.Choice.{pick}
 use Rattle.base.specs.Rules.{refusal, Clear}
 use Rattle.base.specs.Search.{first, Vec}
-use Rattle.base.proofs.Fill.{tab-ext, tab-is}
+use Rattle.base.proofs.Fill.{tab-is}
 use Rattle.field.specs.Fields.{is_field}
 use Rattle.field.proofs.Fields.{five-elim, field-five}
 use Rattle.field.specs.Dot.{at}
@@ -28,8 +28,8 @@ use Rattle.scheme.proofs.Calls.{limits-pos, vec_of}
 use Rattle.scheme.proofs.Verdicts.{kept-means}
 use Rattle.record_layouts.specs.declared.DealingRecord.{DealingRecord}
 use Rattle.record_words.specs.Words.{word_at, words_at}
-use Rattle.record_words.proofs.Words.{length-words, get_d_words, word-behind}
-use Rattle.record_layouts.specs.Records.{DealingParts, mark_su, mark_df, mark_dz, due, setup_at, setup_size, mapped_size, dealing_at, dealing_g, dealing_h, parts_h, mapped_phi, read_setup_rules, lists_rules, standing_rules, mapped_layout, params_at}
+use Rattle.record_words.proofs.Words.{length-words, get_d_words}
+use Rattle.record_layouts.specs.Records.{DealingParts, mark_su, mark_df, mark_dz, due, setup_at, setup_size, mapped_size, dealing_at, dealing_g, dealing_h, parts_h, mapped_phi, read_setup_rules, standing_rules, params_at}
 use Rattle.record_layouts.proofs.Calls.{setup-read, dim-small, matrix-small}
 use Rattle.record_layouts.proofs.Layouts.{Lawful, dealing-lawful, zero_lawful}
 use Rattle.file_records.specs.declared.Sent.{Sent}
@@ -37,7 +37,7 @@ use Rattle.file_records.specs.declared.PartLists.{PartLists}
 use Rattle.file_records.specs.Inner.{Sends, Small, HoldsPart}
 use Rattle.file_records.proofs.Reading.{all_pass, values-small, values2-small, verdicts-small}
 use Rattle.file_reading.specs.declared.Told.{Told}
-use Rattle.file_reading.specs.Contents.{Kind, plain, mapped, Contents, is_mapped, is_zero, columns, part_layout, values2, shares_of, verdict_of, judgement, fate, kept_shares, kept_mapped}
+use Rattle.file_reading.specs.Contents.{Contents, is_mapped, is_zero, columns, part_layout, values2, verdict_of, judgement, fate, kept_shares, kept_mapped}
 use Rattle.file_reading.specs.File.{FileRead, refused_at, whole, setup_fault, has_zero, dealing_fault, has_map, mapped_rules, mapped_fault, first_byte, start, head_of, kind_at, of_contents, or_refused, of_received, of_mapped, of_dealing, read_file, eight, params_of, told}
 use Rattle.file_reading.specs.Inner.{part_of, zero_in, second_of, tied_in, Fair, contents_in, Tells}
 

@@ -7,7 +7,7 @@
 -- contents_in, PartsIn, ReadsParts: what stands in all records; what the stage that reads them gives
 -- JudgedIn: the judgement of the contents, and the shares that stand in DL or DZ, and DF
 -- Tells: what the code gives is what is read
-use Rattle.std.specs.Prelude.{◌≡◌, Bool, true, List, [], ℕ, ◌+◌, length, take, drop}
+use Rattle.std.specs.Prelude.{◌≡◌, Bool, true, List, ℕ, length, take, drop}
 use Rattle.base.specs.Search.{Vec}
 use Rattle.scheme.specs.Dealing.{shares}
 use Rattle.record_layouts.specs.Records.{params_at, setup_at, setup_size, dealing_at, dealing_g, parts_h}

@@ -2,7 +2,7 @@
 -- Sends: what is given of the PV, PF and VD
 -- Small: a setup whose lists have room
 -- HoldsPart: what is given of the lists of a DL, DZ or DF whose h has k entries
-use Rattle.std.specs.Prelude.{◌≡◌, true, List, ◌++◌, ℕ, ◌+◌, ◌*◌, ◌≤◌, length, take, drop, replicate}
+use Rattle.std.specs.Prelude.{◌≡◌, true, List, ◌++◌, ℕ, ◌*◌, ◌≤◌, length, take, drop, replicate}
 use Rattle.scheme.specs.Setup.{Setup, dim}
 use Rattle.record_words.specs.Words.{words_at}
 use Rattle.record_layouts.specs.Records.{parts_h}

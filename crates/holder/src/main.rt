@@ -19,7 +19,10 @@ fn read_once<R: Read>(source: &mut R, part: &mut [u8]) -> Input
 {
     match source.read(part) {
         Ok(len) => Input { len, failed: false },
-        Err(_) => Input { len: 0, failed: true },
+        Err(_) => Input {
+            len: 0,
+            failed: true,
+        },
     }
 }
 

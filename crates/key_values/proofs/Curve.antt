@@ -20,7 +20,7 @@ use Rattle.polynomial.specs.Polynomial.{Poly, minus, basis, prod}
 use Rattle.polynomial.proofs.Polynomial.{Distinct}
 use Rattle.polynomial.proofs.Interpolation.{differ, lagrange-poly, lagrange-node}
 use Rattle.polynomial.proofs.Barycentric.{whole, inverse-whole, inverse-basis, barycentric}
-use Rattle.key_weights.specs.Inner.{away, behind, spread}
+use Rattle.key_weights.specs.Inner.{away, spread}
 use Rattle.key_values.specs.Inner.{Tables, Ready, curve}
 use Rattle.key_weights.proofs.Lanes.{apart, spread_at}
 

@@ -23,7 +23,6 @@ use Rattle.base.proofs.Rules.{stays, clear, refusal-after, joined, unchanged-of}
 use Rattle.base.proofs.Fill.{length-tab}
 use Rattle.base.proofs.Matrix.{below-is}
 use Rattle.field.specs.Fields.{is_field}
-use Rattle.field.specs.Dot.{at}
 use Rattle.scheme.specs.Setup.{Setup}
 use Rattle.scheme.specs.Sets.{holds, members}
 use Rattle.scheme.specs.Opening.{opening, combine, round_of}

@@ -18,7 +18,7 @@ use Rattle.base.proofs.Matrix.{below_by}
 use Rattle.field.specs.Dot.{at}
 use Rattle.scheme.specs.Sets.{holds}
 use Rattle.scheme.specs.Opening.{opening, combine, round_of}
-use Rattle.scheme.specs.Calls.{size, open_rules_for, open_answer}
+use Rattle.scheme.specs.Calls.{open_rules_for, open_answer}
 use Rattle.scheme.proofs.Calls.{size-clear, elements-clear}
 use Rattle.scheme.proofs.Answering as plain
 use Rattle.signed.specs.Integers.{integer_at, remainder}

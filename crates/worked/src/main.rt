@@ -3,6 +3,7 @@
 #![tactic(auto)]
 
 const STDOUT_FILENO: i32 = 1;
+
 use scheme::{
     Decided, Fate, Judged, Judgement, Opened, Params, Rehearsal, SetJudged, Settled, Share, Value,
     Written,

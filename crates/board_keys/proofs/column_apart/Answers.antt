@@ -1,8 +1,7 @@
 -- The mark `other` is 0 exactly while every round passed is the column's first.
-use Prim.Native.Nat.{ℕ, ◌+◌, ◌-◌}
+use Prim.Native.Nat.{ℕ, ◌+◌}
 use mathlib.Core.Path.{◌≡◌, sym, ap, ◌∙◌}
 use mathlib.Core.Bool.{Bool, not}
-use mathlib.Core.Logic.{⊎_elim}
 use native.Mathlib.Nat.{add-zero}
 use native.Mathlib.Omega.{arith}
 use borrow.Author.Rules.{rules}
@@ -27,8 +26,8 @@ loop-i-preserved c =
     let z : get_or rs x.from 0 ≡ get_or rs (x.from + 0) 0 = ap (λ n. get_or rs n 0) (sym (add-zero x.from)) in (
       search rules,
       elim c.if-rounds-from.branch [
-        then-rounds-from w ↦ every-failed t c.loop-i.i c.if-rounds-from.other (ne_eqb _ _ (λ e. w.if-rounds-from.true (e ∙ sym z))) w.other-is
-      | else-rounds-from w ↦ rw w.other-is (every-passed t c.loop-i.i c.loop-i.other (eq-eqb _ _ (w.if-rounds-from.false ∙ z)) c.loop-i.invariant.1)
+        | then-rounds-from w ↦ every-failed t c.loop-i.i c.if-rounds-from.other (ne_eqb _ _ (λ e. w.if-rounds-from.true (e ∙ sym z))) w.other-is
+        | else-rounds-from w ↦ rw w.other-is (every-passed t c.loop-i.i c.loop-i.other (eq-eqb _ _ (w.if-rounds-from.false ∙ z)) c.loop-i.invariant.1)
       ],
     )
 

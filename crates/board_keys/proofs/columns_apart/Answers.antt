@@ -1,8 +1,7 @@
 -- All the rounds one number, or the mark `apart` is 0 exactly while the rounds of every column passed agree.
-use Prim.Native.Nat.{ℕ, ◌-◌}
+use Prim.Native.Nat.{ℕ}
 use mathlib.Core.Path.{◌≡◌, sym, ap, ◌∙◌}
 use mathlib.Core.Bool.{Bool, not}
-use mathlib.Core.Logic.{⊎_elim}
 use native.Mathlib.Omega.{arith}
 use borrow.Author.Rules.{rules}
 use borrow.Author.Tests.{not-true, not-false}
@@ -40,8 +39,8 @@ loop-b-preserved c =
     let t : ℕ → Bool = λ b. agree (tab x.k (entry x.k x.rounds.now b)) in (
       search rules,
       elim c.if-column_apart.branch [
-        then-column_apart w ↦ every-failed t c.loop-b.b c.if-column_apart.apart (not-true _ (sym c.column_apart.ensures ∙ w.if-column_apart.true)) w.apart-is
-      | else-column_apart w ↦ rw w.apart-is (every-passed t c.loop-b.b c.loop-b.apart (not-false _ (sym c.column_apart.ensures ∙ w.if-column_apart.false)) c.loop-b.invariant.1)
+        | then-column_apart w ↦ every-failed t c.loop-b.b c.if-column_apart.apart (not-true _ (sym c.column_apart.ensures ∙ w.if-column_apart.true)) w.apart-is
+        | else-column_apart w ↦ rw w.apart-is (every-passed t c.loop-b.b c.loop-b.apart (not-false _ (sym c.column_apart.ensures ∙ w.if-column_apart.false)) c.loop-b.invariant.1)
       ],
     )
 

@@ -3,7 +3,6 @@
 use mathlib.Core.Path.{sym, ap, ◌∙◌}
 use mathlib.Core.Bool.{not}
 use native.Mathlib.Omega.{arith}
-use borrow.Author.Tests.{not-false}
 use Rattle.base.proofs.Matrix.{below_by}
 use Rattle.board_keys.proofs.Columns.{asked, ends-few, ends-differs, ends-no-byte, ends-key}
 use Rattle.board_keys.proofs.open_in_order.Goals as goal

@@ -1,11 +1,9 @@
 -- The first i bytes are written.
-use Prim.Native.Nat.{◌-◌}
 use mathlib.Core.Path.{refl, sym, ◌∙◌}
 use native.Mathlib.Nat.{le_antisymm}
 use native.Mathlib.Omega.{arith}
 use borrow.Author.Rules.{rules}
 use Rattle.base.proofs.Fill.{filled_none, filled-store, filled-all}
-use Rattle.field.specs.Dot.{at}
 use Rattle.board_keys.proofs.write_bytes.Goals as goal
 
 pub loop-i-init : goal.loop-i-init

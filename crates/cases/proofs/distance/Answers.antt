@@ -15,6 +15,7 @@ record Below (z : ℤ) : Type 0 where
   number : ℕ
   is : negsuc 0 -ℤ z ≡ pos number
   small : number < 2147483648
+
 record Above (z : ℤ) : Type 0 where
   number : ℕ
   is : z ≡ pos number

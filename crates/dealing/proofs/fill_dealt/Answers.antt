@@ -1,5 +1,5 @@
 -- The first k rows of F are written; each is begun from the secrets and ended from the random entries, and the rest is random entries in order.
-use Prim.Native.Nat.{◌+◌, ◌-◌}
+use Prim.Native.Nat.{◌+◌}
 use mathlib.Core.Path.{ap, ◌∙◌}
 use native.Mathlib.Nat.{le_antisymm, zero-mul}
 use native.Mathlib.Omega.{arith}

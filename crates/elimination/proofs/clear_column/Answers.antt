@@ -85,12 +85,12 @@ loop-t-preserved c =
     let step = rows_step x.p x.width x.k x.col r x.a.now l.a c.if-f-ne0.a l.invariant.3 in
     let count = count-step x.p x.width x.k x.col r l.steps x.a.now l.a (omega arith) l.invariant.3 l.invariant.4 in
     elim c.if-f-ne0.branch [
-      then-f-ne0 w ↦
-        let g = row-cleared x.p x.width x.k x.col r f l.a (omega arith) read w.if-f-ne0.true in
-        (suc r, is-inside, omega (arith, l.invariant.2), step (w.a-is ∙ w.add_row.ensures ∙ ap (λ (z : ℕ). add_row x.p (x.p - f) z (x.k * x.width) x.width l.a) l.invariant.2 ∙ g.0), w.steps-is ∙ count 1 g.1)
-    | else-f-ne0 w ↦
-        let g = row-passed x.p x.width x.k x.col r f l.a (omega arith) read w.if-f-ne0.false in
-        (suc r, is-inside, omega (arith, l.invariant.2), step (w.a-is ∙ g.0), omega (arith, w.steps-is, count 0 g.1))
+      | then-f-ne0 w ↦
+          let g = row-cleared x.p x.width x.k x.col r f l.a (omega arith) read w.if-f-ne0.true in
+          (suc r, is-inside, omega (arith, l.invariant.2), step (w.a-is ∙ w.add_row.ensures ∙ ap (λ (z : ℕ). add_row x.p (x.p - f) z (x.k * x.width) x.width l.a) l.invariant.2 ∙ g.0), w.steps-is ∙ count 1 g.1)
+      | else-f-ne0 w ↦
+          let g = row-passed x.p x.width x.k x.col r f l.a (omega arith) read w.if-f-ne0.false in
+          (suc r, is-inside, omega (arith, l.invariant.2), step (w.a-is ∙ g.0), omega (arith, w.steps-is, count 0 g.1))
     ]
 
 pub shape_of-a : goal.shape_of-a

@@ -49,8 +49,8 @@ loop-top-preserved c =
       sym
           (first_step t l.top x.rows (omega arith)
           (elim c.if-used-top-eq0.branch [
-            then-used-top-eq0+else-a-top-ne0 w ↦ simp (eq-eqb _ _ w.if-used-top-eq0.true, eq-eqb _ _ w.if-a-top-ne0.false)
-          | else-used-top-eq0 w ↦ simp (ne_eqb _ _ w.if-used-top-eq0.false)
+            | then-used-top-eq0+else-a-top-ne0 w ↦ simp (eq-eqb _ _ w.if-used-top-eq0.true, eq-eqb _ _ w.if-a-top-ne0.false)
+            | else-used-top-eq0 w ↦ simp (ne_eqb _ _ w.if-used-top-eq0.false)
           ]))
           ∙ l.invariant.1,
     )

@@ -58,13 +58,13 @@ pub loop-col-preserved : goal.loop-col-preserved
 loop-col-preserved c =
     let i = c.loop-col.invariant in
     elim c.if-k-rows.branch [
-      then-k-rows w ↦ (
+      | then-k-rows w ↦ (
         omega arith,
         ap length w.a-is ∙ w.use_row-total.auto.a ∙ i.1,
         ap length w.used-is ∙ w.use_row-total.auto.used ∙ i.2,
         renamed (used-next _ i.3 c.find_pivot-k.ensures w.if-k-rows.true w.use_row-total.ensures) w.a-is w.used-is w.total-is,
       )
-    | else-k-rows w ↦ (
+      | else-k-rows w ↦ (
         omega arith,
         ap length w.a-is ∙ i.1,
         ap length w.used-is ∙ i.2,

@@ -2,7 +2,6 @@
 -- ALL RECORDS IN ORDER: the file, and what was read of it
 use Prim.Native.Nat.{ℕ, ◌<◌}
 use mathlib.Core.List.{List, []}
-use mathlib.Core.Logic.{⊎_elim}
 use mathlib.Core.Path.{◌≡◌, sym, ap, ◌∙◌}
 use native.Mathlib.Omega.{arith}
 use lib.ListN.{length, get_or, take}
@@ -75,9 +74,9 @@ returns-then-verdicts-i c =
     ∙ ap (λ (x : DealingRecord). get_or contents.verdicts x.holder 0) parts.dealing in
     let own-judged : JudgedIn contents c.judge_parts-judged.result = c.judge_parts-judged.ensures in
     let own-by : c.match-judgement.own ≡ verdict_of c.judge_parts-judged.result.judgement = elim c.match-judgement.branch [
-      in-Accept w ↦ w.own-is ∙ sym (ap verdict_of w.in-Accept.is)
-    | in-Reject w ↦ w.own-is ∙ sym (ap verdict_of w.in-Reject.is)
-    | in-RejectMap w ↦ w.own-is ∙ sym (ap verdict_of w.in-RejectMap.is)
+      | in-Accept w ↦ w.own-is ∙ sym (ap verdict_of w.in-Accept.is)
+      | in-Reject w ↦ w.own-is ∙ sym (ap verdict_of w.in-Reject.is)
+      | in-RejectMap w ↦ w.own-is ∙ sym (ap verdict_of w.in-RejectMap.is)
     ] in
     let own_is : c.match-judgement.own ≡ verdict_of (judgement contents) = own-by ∙ ap verdict_of own-judged.judgement in
     tells-refused 13 (length file) _ (read_file file)
@@ -97,9 +96,9 @@ returns-in-Kept c =
     let said : get_or verdicts c.read_parts-parts.result.record.holder 0 ≡ get_or contents.verdicts contents.holder 0 = sym (get_or-take (setup_at file).n verdicts _ 0 holder-below)
     ∙ ap (λ (x : DealingRecord). get_or contents.verdicts x.holder 0) parts.dealing in
     let own-by : c.match-judgement.own ≡ verdict_of c.judge_parts-judged.result.judgement = elim c.match-judgement.branch [
-      in-Accept w ↦ w.own-is ∙ sym (ap verdict_of w.in-Accept.is)
-    | in-Reject w ↦ w.own-is ∙ sym (ap verdict_of w.in-Reject.is)
-    | in-RejectMap w ↦ w.own-is ∙ sym (ap verdict_of w.in-RejectMap.is)
+      | in-Accept w ↦ w.own-is ∙ sym (ap verdict_of w.in-Accept.is)
+      | in-Reject w ↦ w.own-is ∙ sym (ap verdict_of w.in-Reject.is)
+      | in-RejectMap w ↦ w.own-is ∙ sym (ap verdict_of w.in-RejectMap.is)
     ] in
     let own_is : c.match-judgement.own ≡ verdict_of (judgement contents) = own-by ∙ ap verdict_of own-judged.judgement in
     let agreed : reads.whole contents ≡ read_file file = of-whole contents (length file) (sym said ∙ c.if-verdicts-i.false ∙ own_is) ∙ parts.is in
@@ -129,9 +128,9 @@ returns-in-Aborted c =
     let said : get_or verdicts c.read_parts-parts.result.record.holder 0 ≡ get_or contents.verdicts contents.holder 0 = sym (get_or-take (setup_at file).n verdicts _ 0 holder-below)
     ∙ ap (λ (x : DealingRecord). get_or contents.verdicts x.holder 0) parts.dealing in
     let own-by : c.match-judgement.own ≡ verdict_of c.judge_parts-judged.result.judgement = elim c.match-judgement.branch [
-      in-Accept w ↦ w.own-is ∙ sym (ap verdict_of w.in-Accept.is)
-    | in-Reject w ↦ w.own-is ∙ sym (ap verdict_of w.in-Reject.is)
-    | in-RejectMap w ↦ w.own-is ∙ sym (ap verdict_of w.in-RejectMap.is)
+      | in-Accept w ↦ w.own-is ∙ sym (ap verdict_of w.in-Accept.is)
+      | in-Reject w ↦ w.own-is ∙ sym (ap verdict_of w.in-Reject.is)
+      | in-RejectMap w ↦ w.own-is ∙ sym (ap verdict_of w.in-RejectMap.is)
     ] in
     let own_is : c.match-judgement.own ≡ verdict_of (judgement contents) = own-by ∙ ap verdict_of own-judged.judgement in
     let agreed : reads.whole contents ≡ read_file file = of-whole contents (length file) (sym said ∙ c.if-verdicts-i.false ∙ own_is) ∙ parts.is in

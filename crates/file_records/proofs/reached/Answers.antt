@@ -1,5 +1,5 @@
 -- The first faulty record from the one reached on is the first of all.
-use Prim.Native.Nat.{◌+◌, ◌-◌}
+use Prim.Native.Nat.{◌+◌}
 use mathlib.Core.Path.{◌≡◌, refl, sym, ap, ◌∙◌}
 use mathlib.Core.Bool.{not}
 use native.Mathlib.Nat.{sub-zero}
@@ -7,7 +7,7 @@ use native.Mathlib.Omega.{arith}
 use borrow.Author.Tests.{eq-eqb, ne_eqb}
 use Rattle.base.specs.Search.{first}
 use Rattle.base.proofs.Search.{first-stop, first_step, first-end}
-use Rattle.file_records.specs.Received.{fault_at, reached}
+use Rattle.file_records.specs.Received.{reached}
 use Rattle.file_records.proofs.reached.Goals as goal
 
 pub loop-k-init : goal.loop-k-init

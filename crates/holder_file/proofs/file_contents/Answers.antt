@@ -65,7 +65,10 @@ returns c =
     let z = fair in
     let r = c.read_file-r in
     let C = contents s r.result r.ensures c.if-k-ne0.false in
-    let n = c.tell_numbers-all in record { answer = whole-answer (λ D. []) (read_file s) C.contents C.is ∙ accepted declines _ z; buffer = written declines _ _ _ z
+    let n = c.tell_numbers-all in record {
+      answer = whole-answer (λ D. []) (read_file s) C.contents C.is ∙ accepted declines _ z;
+      buffer = written declines _ _ _ z
           (c.copy.ensures ∙ copied n.result buffer 27 n.ensures.1 (lent-means s buffer 27 z).1 ∙ n.ensures.0
           ∙ ap numbers (told_is s r.result r.ensures c.if-k-ne0.false)
-          ∙ whole-left (λ D. numbers (told D)) (read_file s) C.contents buffer C.is) }
+          ∙ whole-left (λ D. numbers (told D)) (read_file s) C.contents buffer C.is);
+    }

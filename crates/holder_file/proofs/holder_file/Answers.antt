@@ -104,5 +104,8 @@ returns c =
     let text =
     ap (λ (k : ℕ). printed (setup_of t.setup []) t.dealing t.holder t.outcome.judgement t.outcome.fate (take t.setup.l t.shares) (take k t.shares2))
     c.mapped_lines-m.ensures ∙ told_text s r.result r.ensures c.if-k-ne0.false in
-    let P = printed-as text c.print_told-count.ensures in record { answer = ap (λ (n : ℕ). given (n ∷ [])) P.count ∙ whole-answer (λ D. length (text_of D) ∷ []) (read_file s) C.contents C.is ∙ accepted declines _ z; buffer = written declines _ _ _ z
-          (printed-left P ∙ whole-left (λ D. text_of D ++ drop (length (text_of D)) buffer) (read_file s) C.contents buffer C.is) }
+    let P = printed-as text c.print_told-count.ensures in record {
+      answer = ap (λ (n : ℕ). given (n ∷ [])) P.count ∙ whole-answer (λ D. length (text_of D) ∷ []) (read_file s) C.contents C.is ∙ accepted declines _ z;
+      buffer = written declines _ _ _ z
+          (printed-left P ∙ whole-left (λ D. text_of D ++ drop (length (text_of D)) buffer) (read_file s) C.contents buffer C.is);
+    }

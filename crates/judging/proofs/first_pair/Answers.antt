@@ -58,11 +58,11 @@ returns-then-i-n c =
     let x = c.args in
     let S = setup_of x.s x.matrix.now in
     elim c.holders-test.branch [
-      else-holders-test w ↦ absurd (omega arith)
-    | then-holders-test+then-loop-j-test+then-sent-due w ↦
-        let sent = is-pair-value-of S _ c.dim-d.ensures.0 _ x.gs.now w.loop-j.j i w.rows_product-sent.ensures in
-        let due = is-due-of S _ c.dim-d.ensures.0 _ x.hs.now i w.loop-j.j w.rows_product-due.ensures in
-        rw w.j-is (pair-differs S _ _ i w.loop-j.j w.holders-test.true w.loop-j-test.true (λ e. w.if-sent-due.true (sent ∙ e ∙ sym due)) w.loop-j.invariant.1)
+      | else-holders-test w ↦ absurd (omega arith)
+      | then-holders-test+then-loop-j-test+then-sent-due w ↦
+          let sent = is-pair-value-of S _ c.dim-d.ensures.0 _ x.gs.now w.loop-j.j i w.rows_product-sent.ensures in
+          let due = is-due-of S _ c.dim-d.ensures.0 _ x.hs.now i w.loop-j.j w.rows_product-due.ensures in
+          rw w.j-is (pair-differs S _ _ i w.loop-j.j w.holders-test.true w.loop-j-test.true (λ e. w.if-sent-due.true (sent ∙ e ∙ sym due)) w.loop-j.invariant.1)
     ]
 
 pub returns : goal.returns

@@ -1,5 +1,4 @@
 -- After k columns each lane is the product of its first k halves with x; the lanes are then joined by twos.
-use Prim.Native.Nat.{◌-◌}
 use mathlib.Core.Path.{refl, ◌∙◌}
 use native.Mathlib.Nat.{le_antisymm}
 use native.Mathlib.Omega.{arith}

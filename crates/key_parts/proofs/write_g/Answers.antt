@@ -1,5 +1,4 @@
 -- The first c entries of every part are written: first those from the columns of F with bytes of the key, then those from the random ones.
-use Prim.Native.Nat.{◌-◌}
 use mathlib.Core.Path.{sym, ◌∙◌}
 use native.Mathlib.Nat.{le_antisymm, add_assoc}
 use native.Mathlib.Omega.{arith}

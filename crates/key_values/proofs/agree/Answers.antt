@@ -1,6 +1,5 @@
 -- The shares before place x are those expected.
-use Prim.Native.Nat.{◌+◌, ◌-◌}
-use mathlib.Core.Bool.{true}
+use Prim.Native.Nat.{◌+◌}
 use mathlib.Core.Path.{sym, ◌∙◌}
 use native.Mathlib.Omega.{arith}
 use borrow.Author.Rules.{rules}

@@ -37,6 +37,9 @@ returns c =
     let is : let x = c.args in c.dealing_faults-refusal.result ≡ refusal (write_rules (parts_in x.mark x.many) (setup_of x.s []) (parts x.x x.g.now x.h.now) (length x.out.now)) = cc in
     let none : let x = c.args in refusal (write_rules (parts_in x.mark x.many) (setup_of x.s []) (parts x.x x.g.now x.h.now) (length x.out.now)) ≡ 0 = sym is ∙ c.if-refusal-ne0.false in
     let x = c.args in
-    let z = none in record { answer = accepted _ _ z; buffer = written _ _ _ _ z
+    let z = none in record {
+      answer = accepted _ _ z;
+      buffer = written _ _ _ _ z
           (c.put_dealing.ensures
-          ∙ filled (parts_in x.mark x.many) (lawful x.mark x.many) (setup_of x.s []) (parts x.x x.g.now x.h.now) x.out.now z) }
+          ∙ filled (parts_in x.mark x.many) (lawful x.mark x.many) (setup_of x.s []) (parts x.x x.g.now x.h.now) x.out.now z);
+    }

@@ -71,8 +71,11 @@ returns c =
     let F = dealt-array S _ _ _ ok.0.first c.fill_dealt.ensures in
     let F2 = mapped-array S _ _ _ _ _ _ _ ok.0 F c.fill_mapped.ensures in
     let W = c.write_part.ensures in
-    let W2 = c.write_part-2.ensures in record { result_value = rw z refl; h2_after = rw z (same-buffers
+    let W2 = c.write_part-2.ensures in record {
+      result_value = rw z refl;
+      h2_after = rw z (same-buffers
           (W.g_after ∙ held-g S _ _ F x.holder)
           (W.h_after ∙ held-h S _ _ F x.holder)
           (W2.g_after ∙ held-g S _ _ F2 x.holder)
-          (W2.h_after ∙ held-h S _ _ F2 x.holder)) }
+          (W2.h_after ∙ held-h S _ _ F2 x.holder));
+    }

@@ -59,8 +59,11 @@ returns c =
     let F = dealt-array S _ _ _ ok.0.first c.fill_dealt.ensures in
     let F2 = mapped-array S _ _ _ _ _ _ _ ok.0 F c.fill_mapped.ensures in
     let W = c.write_all.ensures in
-    let W2 = c.write_all-2.ensures in record { result_value = rw z refl; hs2_after = rw z (same-buffers
+    let W2 = c.write_all-2.ensures in record {
+      result_value = rw z refl;
+      hs2_after = rw z (same-buffers
           (rw d at W.gs_after ∙ all-g S _ _ F x.gs.now ok.1.g)
           (rw d at W.hs_after ∙ all-h S _ _ F x.hs.now ok.1.h)
           (rw d at W2.gs_after ∙ all-g S _ _ F2 x.gs2.now ok.1.g2)
-          (rw d at W2.hs_after ∙ all-h S _ _ F2 x.hs2.now ok.1.h2)) }
+          (rw d at W2.hs_after ∙ all-h S _ _ F2 x.hs2.now ok.1.h2));
+    }

@@ -1,5 +1,4 @@
 -- The first b entries are written; each is the product of row k of φ and the first ℓ entries of line b of F.
-use Prim.Native.Nat.{◌-◌}
 use native.Mathlib.Nat.{le_antisymm}
 use native.Mathlib.Omega.{arith}
 use borrow.Author.Rules.{rules}

@@ -1,22 +1,19 @@
 -- Every position passed is the map's, by the product of its row; the first that is not ends the loop.
-use Prim.Native.Nat.{ℕ, ◌+◌, ◌-◌, ◌*◌, ◌≤◌}
+use Prim.Native.Nat.{ℕ, ◌+◌, ◌*◌, ◌≤◌}
 use mathlib.Core.Path.{refl, sym, ◌∙◌}
-use mathlib.Core.Bool.{Bool, true}
-use mathlib.Core.List.{List, []}
+use mathlib.Core.Bool.{Bool}
+use mathlib.Core.List.{[]}
 use native.Mathlib.Omega.{arith}
 use borrow.Author.Tests.{eq-eqb, ne_eqb}
-use lib.Dec.{eqb}
 use Rattle.base.specs.Search.{every}
 use Rattle.base.proofs.Choice.{and_both}
 use Rattle.base.proofs.Matrix.{row_fits}
 use Rattle.base.proofs.Search.{every-step, every-at, every-all, every-fails}
-use Rattle.field.specs.Dot.{at}
-use Rattle.scheme.specs.Setup.{Setup, setup_of}
-use Rattle.scheme.specs.Dealing.{image_at, map_holds}
+use Rattle.scheme.specs.Setup.{setup_of}
+use Rattle.scheme.specs.Dealing.{map_holds}
 use Rattle.mapped_judging.proofs.Products.{is-image}
 use Rattle.mapped_judging.proofs.map_holds.Invariants.{mapped}
 use Rattle.mapped_judging.proofs.map_holds.Goals as goal
-
 
 pub loop-k-init : goal.loop-k-init
 unfolding every

@@ -29,8 +29,8 @@ loop-t-preserved c =
     let l = c.loop-t in (
       search rules,
       elim c.if-t-count.branch [
-        then-t-count w ↦ rw w.columns-is (column-lane _ _ _ _ _ _ (omega (arith, c.requires.at_in_bounds.0)) (c.requires.at_in_bounds.1 _) l.invariant.1)
-      | else-t-count w ↦ rw w.columns-is (column-left _ _ _ _ _ _ w.if-t-count.false l.invariant.1)
+        | then-t-count w ↦ rw w.columns-is (column-lane _ _ _ _ _ _ (omega (arith, c.requires.at_in_bounds.0)) (c.requires.at_in_bounds.1 _) l.invariant.1)
+        | else-t-count w ↦ rw w.columns-is (column-left _ _ _ _ _ _ w.if-t-count.false l.invariant.1)
       ],
     )
 

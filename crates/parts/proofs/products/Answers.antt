@@ -35,8 +35,12 @@ overflow_add-at c = omega (arith, (c.requires.by_index c.loop-k.k (omega arith))
 pub add8-next-requires : goal.add8-next-requires
 add8-next-requires c =
     let l = c.loop-k in
-    let x = c.args in record { x_bound = (omega (arith, c.requires.below_2 (x.start + l.k * x.step)), (c.requires.by_index l.k (omega arith)).0); below = lanes-below x.table.now x.at x.wide (along x.x.now x.start x.step) l.k _ c.requires.below (λ j. c.requires.below_2 (x.start + j * x.step))
-            (omega (arith, c.requires.d_bound)) l.invariant.1; below_2 = c.requires.below }
+    let x = c.args in record {
+      x_bound = (omega (arith, c.requires.below_2 (x.start + l.k * x.step)), (c.requires.by_index l.k (omega arith)).0);
+      below = lanes-below x.table.now x.at x.wide (along x.x.now x.start x.step) l.k _ c.requires.below (λ j. c.requires.below_2 (x.start + j * x.step))
+          (omega (arith, c.requires.d_bound)) l.invariant.1;
+      below_2 = c.requires.below;
+    }
 
 pub loop-k-preserved : goal.loop-k-preserved
 loop-k-preserved c =

@@ -49,10 +49,9 @@ loop-i-preserved c =
     let x = c.args in
     let l = c.loop-i in
     let g : c.if-p-gt257.gs ≡ laid (entry_g x.p x.d x.matrix.now x.f.now l.i) (l.i * x.d) x.d l.gs = elim c.if-p-gt257.branch [
-      then-p-gt257 w ↦ w.gs-is ∙ w.write_one-then-p-gt257.ensures
-    | else-p-gt257 w ↦ w.gs-is ∙ w.write_g_in_lanes.ensures
+      | then-p-gt257 w ↦ w.gs-is ∙ w.write_one-then-p-gt257.ensures
+      | else-p-gt257 w ↦ w.gs-is ∙ w.write_g_in_lanes.ensures
     ] in (
-
       search rules,
       search rules,
       ap length g ∙ length-laid _ _ _ _ ∙ l.invariant.2,

@@ -78,13 +78,16 @@ loop-i-preserved c =
 
 pub write_each-requires : goal.write_each-requires
 write_each-requires c =
-    let l = c.loop-i in record { all_room = record {
+    let l = c.loop-i in record {
+      all_room = record {
         above = c.requires.all_room.above;
         small = c.requires.all_room.small;
         rows = c.requires.all_room.rows;
         square = c.requires.all_room.square;
         fits = (l.invariant.1 ∙ c.requires.all_room.fits.0, l.invariant.2 ∙ c.requires.all_room.fits.1);
-      }; first_le_n = (l.invariant.0, λ h. c.requires.below, λ h. c.requires.below_2) }
+      };
+      first_le_n = (l.invariant.0, λ h. c.requires.below, λ h. c.requires.below_2);
+    }
 
 pub returns : goal.returns
 returns c =

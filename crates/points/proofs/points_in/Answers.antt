@@ -19,11 +19,14 @@ write_points-requires c =
     let sizes = c.limits_and_matrix-early in
     let h : sizes.result ≤ c.or_when-refusal.result = rw c.or_when-refusal.ensures (not-lowered _ _ _) in
     let z : sizes.result ≡ 0 = omega (arith, h, c.if-refusal-eq0.true) in
-    let ok = sizes-ok S (sym sizes.ensures ∙ z) in record { d_bound = (
+    let ok = sizes-ok S (sym sizes.ensures ∙ z) in record {
+      d_bound = (
         omega (arith, ok.0.secret, ok.0.random, D),
         omega (arith, ok.0.holders),
         ok.1 ∙ ap (λ d. x.s.n * d) (sym D),
-      ); p_value = rw P ok.0.field }
+      );
+      p_value = rw P ok.0.field;
+    }
 
 pub returns-then-refusal-eq0 : goal.returns-then-refusal-eq0
 unfolding points_matrix

@@ -38,8 +38,8 @@ loop-j-preserved c =
       sym
           (first_step t l.j x.pivots (omega arith)
           (elim c.if-q-j.branch [
-            then-q-j+else-a-t-ne0 w ↦ simp (ne_eqb _ _ w.if-q-j.true, eq-eqb _ _ w.if-a-t-ne0.false)
-          | else-q-j w ↦ simp (eq-eqb _ _ w.if-q-j.false)
+            | then-q-j+else-a-t-ne0 w ↦ simp (ne_eqb _ _ w.if-q-j.true, eq-eqb _ _ w.if-a-t-ne0.false)
+            | else-q-j w ↦ simp (eq-eqb _ _ w.if-q-j.false)
           ]))
           ∙ l.invariant.1,
     )

@@ -6,7 +6,7 @@ use mathlib.Core.Path.{◌≡◌, sym, ap, ◌∙◌}
 use native.Mathlib.Omega.{arith}
 use lib.ListN.{length}
 use Rattle.base.specs.Rules.{refusal, given}
-use Rattle.scheme.specs.Setup.{dim, setup_of}
+use Rattle.scheme.specs.Setup.{setup_of}
 use Rattle.base.proofs.Rules.{declined, unchanged, accepted, written}
 use Rattle.record_words.specs.Words.{words_at}
 use Rattle.record_layouts.specs.declared.DealingRecord.{DealingRecord}
@@ -41,7 +41,12 @@ returns c =
     let x = c.args in
     let z = none in
     let p = c.get_parts.ensures in
-    let d = c.dim in record { answer = ap (λ (y : DealingRecord). given (y.dealing ∷ y.holder ∷ [])) c.dealing_at.ensures ∙ accepted _ _ z; row = written _ _ _ _ z p.row; column = written _ _ _ _ z (p.column ∙ ap (λ k. parts_h k (setup_of x.s []) x.part.now) room.1); map = written _ _ _ _ z
-              (c.get_words.ensures
-              ∙ ap (words_at x.part.now (3 + 2 * d.result)) room.2
-              ∙ ap (λ m. words_at x.part.now (3 + 2 * m) (x.s.l * x.s.l)) d.ensures.0) }
+    let d = c.dim in record {
+      answer = ap (λ (y : DealingRecord). given (y.dealing ∷ y.holder ∷ [])) c.dealing_at.ensures ∙ accepted _ _ z;
+      row = written _ _ _ _ z p.row;
+      column = written _ _ _ _ z (p.column ∙ ap (λ k. parts_h k (setup_of x.s []) x.part.now) room.1);
+      map = written _ _ _ _ z
+          (c.get_words.ensures
+          ∙ ap (words_at x.part.now (3 + 2 * d.result)) room.2
+          ∙ ap (λ m. words_at x.part.now (3 + 2 * m) (x.s.l * x.s.l)) d.ensures.0);
+    }

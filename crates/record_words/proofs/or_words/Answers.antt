@@ -22,8 +22,8 @@ loop-k-preserved c =
     let t : ℕ → Bool = λ j. ltb (word_at x.s.now (x.i + j)) x.p in (
       search rules,
       elim c.if-p-whole.branch [
-        then-p-whole w ↦ failed t c.loop-k.k c.if-p-whole.over (ap (λ v. ltb v x.p) (sym c.whole.ensures) ∙ le-ltb _ _ w.if-p-whole.true) w.over-is
-      | else-p-whole w ↦ rw w.over-is (passed t c.loop-k.k c.loop-k.over (ap (λ v. ltb v x.p) (sym c.whole.ensures) ∙ lt-ltb _ _ w.if-p-whole.false) c.loop-k.invariant.1)
+        | then-p-whole w ↦ failed t c.loop-k.k c.if-p-whole.over (ap (λ v. ltb v x.p) (sym c.whole.ensures) ∙ le-ltb _ _ w.if-p-whole.true) w.over-is
+        | else-p-whole w ↦ rw w.over-is (passed t c.loop-k.k c.loop-k.over (ap (λ v. ltb v x.p) (sym c.whole.ensures) ∙ lt-ltb _ _ w.if-p-whole.false) c.loop-k.invariant.1)
       ],
     )
 

@@ -3,7 +3,6 @@ use mathlib.Core.Path.{refl}
 use native.Mathlib.Omega.{arith}
 use borrow.Author.Rules.{rules}
 use lib.Count.{trailing_le}
-use lib.ListN.{set}
 use Rattle.base.proofs.Fill.{filled_none, filled-store}
 use Rattle.field.specs.Dot.{at}
 use Rattle.scheme.specs.Sets.{holds, members}

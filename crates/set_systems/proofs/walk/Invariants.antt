@@ -1,6 +1,6 @@
 -- In each turn the lowest member of what is left of the number is written at the next place.
 use mathlib.Core.Path.{◌≡◌}
-use lib.ListN.{length, set}
+use lib.ListN.{length}
 use Rattle.base.specs.Fill.{filled}
 use Rattle.field.specs.Dot.{at}
 use Rattle.scheme.specs.Sets.{holds, members}

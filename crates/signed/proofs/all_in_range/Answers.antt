@@ -1,11 +1,9 @@
 -- The mark `over` is 0 exactly while every correction passed is in the range.
-use Prim.Native.Nat.{ℕ, ◌-◌}
+use Prim.Native.Nat.{ℕ}
 use mathlib.Core.Path.{◌≡◌, sym, ◌∙◌}
 use mathlib.Core.Bool.{Bool}
-use mathlib.Core.Logic.{⊎_elim}
 use native.Mathlib.Omega.{arith}
 use borrow.Author.Rules.{rules}
-use borrow.Author.Tests.{not-true, not-false}
 use mir.Syntax.{w32}
 use mir.Val.{to_z, of_z}
 use mir.Facts.{to_z-of_z}
@@ -31,8 +29,8 @@ loop-i-preserved c =
     let e : c.in_range.result ≡ t c.loop-i.i = rw (← read) c.in_range.ensures in (
       search rules,
       elim c.if-not-in_range.branch [
-        then-not-in_range w ↦ every-failed t c.loop-i.i c.if-not-in_range.over (sym e ∙ w.if-not-in_range.true) w.over-is
-      | else-not-in_range w ↦ rw w.over-is (every-passed t c.loop-i.i c.loop-i.over (sym e ∙ w.if-not-in_range.false) c.loop-i.invariant.1)
+        | then-not-in_range w ↦ every-failed t c.loop-i.i c.if-not-in_range.over (sym e ∙ w.if-not-in_range.true) w.over-is
+        | else-not-in_range w ↦ rw w.over-is (every-passed t c.loop-i.i c.loop-i.over (sym e ∙ w.if-not-in_range.false) c.loop-i.invariant.1)
       ],
     )
 

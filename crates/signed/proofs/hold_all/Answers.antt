@@ -1,5 +1,4 @@
 -- The entries passed are the corrections' residues; a correction that was read fits an i32, so that it is the list's.
-use Prim.Native.Nat.{◌-◌}
 use mathlib.Core.Path.{◌≡◌, refl, ◌∙◌}
 use native.Mathlib.Omega.{arith}
 use borrow.Author.Rules.{rules}
@@ -30,8 +29,7 @@ bounds-held-i c =
 
 pub loop-i-preserved : goal.loop-i-preserved
 loop-i-preserved c =
-    let read : to_z w32 (of_z w32 (integer_at c.args.integers.now c.loop-i.i)) ≡ integer_at c.args.integers.now c.loop-i.i = to_z-of_z {w = w32} (record { sfits = c.x-1.given }) in
-    (
+    let read : to_z w32 (of_z w32 (integer_at c.args.integers.now c.loop-i.i)) ≡ integer_at c.args.integers.now c.loop-i.i = to_z-of_z {w = w32} (record { sfits = c.x-1.given }) in (
       search rules,
       length-set c.loop-i.held c.loop-i.i c.residue.result ∙ c.loop-i.invariant.1,
       filled-store _ _ _ _ _ c.loop-i.invariant.2 (rw (← read) c.residue.ensures),

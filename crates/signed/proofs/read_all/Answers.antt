@@ -1,5 +1,4 @@
 -- The entries passed are what the residues are read back to.
-use Prim.Native.Nat.{◌-◌}
 use mathlib.Core.Path.{◌≡◌, refl, ◌∙◌}
 use native.Mathlib.Omega.{arith}
 use borrow.Author.Rules.{rules}
@@ -26,12 +25,11 @@ bounds-integers-i c =
     omega (arith, c.loop-i.invariant.1, c.requires.integers_len, c.loop-i-test.true)
 
 pub loop-i-preserved : goal.loop-i-preserved
-loop-i-preserved c =
-    (
-      search rules,
-      length-set c.loop-i.integers c.loop-i.i (to_z w32 (of_z w32 c.correction-x.result)) ∙ c.loop-i.invariant.1,
-      filled-store _ _ _ _ _ c.loop-i.invariant.2 (rw (to_z-of_z {w = w32} (record { sfits = c.correction-x.type_inv })) c.correction-x.ensures),
-    )
+loop-i-preserved c = (
+  search rules,
+  length-set c.loop-i.integers c.loop-i.i (to_z w32 (of_z w32 c.correction-x.result)) ∙ c.loop-i.invariant.1,
+  filled-store _ _ _ _ _ c.loop-i.invariant.2 (rw (to_z-of_z {w = w32} (record { sfits = c.correction-x.type_inv })) c.correction-x.ensures),
+)
 
 pub returns : goal.returns
 unfolding corrections

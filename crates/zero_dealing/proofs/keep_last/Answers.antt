@@ -1,5 +1,5 @@
 -- The last entries of the first i columns are written.
-use Prim.Native.Nat.{◌+◌, ◌-◌}
+use Prim.Native.Nat.{◌+◌}
 use mathlib.Core.Path.{ap, ◌∙◌}
 use native.Mathlib.Nat.{le_antisymm, zero-mul}
 use native.Mathlib.Omega.{arith}
