@@ -2,7 +2,7 @@
  * opened again, two slips for one share settled; then a dealer that lies; then twin boards, whose keys are tied by a public map; then door timings, numbers
  * below zero as well. Exit status 1 when anything is not as expected. To build and run, in the repository's folder:
  *
- *   rt staticlib c_api
+ *   tools/archive
  *   cc -Wall -Wextra -O2 -Iinclude -o target/journey examples/journey.c target/staticlib/libc_api.a && target/journey
  */
 #include <stdio.h>

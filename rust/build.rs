@@ -13,7 +13,7 @@ fn main() {
     let library = folder.join("libc_api.a");
     println!("cargo:rerun-if-changed={}", library.display());
     if !library.is_file() {
-        eprintln!("{} is missing: run `rt staticlib c_api` first", library.display());
+        eprintln!("{} is missing: run `tools/archive` first", library.display());
         exit(1);
     }
     println!("cargo:rustc-link-search=native={}", folder.display());

@@ -1,4 +1,4 @@
-// Every call, exported for C and Rust. A setup is passed as its four numbers with its matrix beside them, a slice as a pointer and a length. Each
+// Every call, as `c_api_c` exports it for C and Rust. A setup is passed as its four numbers with its matrix beside them, a slice as a pointer and a length. Each
 // function returns 0 or document 01's number of the refusal; values of the answer go into lent places, which a refusal leaves as they were.
 #![tactic(auto)]
 
@@ -34,8 +34,7 @@ use scheme::{Decided, Fate, Params, Settled, Value};
 use superseding::Superseding;
 
 // Whether p is one of the five fields' numbers.
-#[unsafe(no_mangle)]
-pub extern "C" fn mavdrusek_field(p: u16) -> u16
+pub fn mavdrusek_field(p: u16) -> u16
     ensures { result ≡ (field_answer p).number }
 {
     match Field::new(p) {
@@ -46,8 +45,7 @@ pub extern "C" fn mavdrusek_field(p: u16) -> u16
 
 // DEALING
 // The points matrix into the lent matrix.
-#[unsafe(no_mangle)]
-pub extern "C" fn mavdrusek_points(p: u16, l: u16, e: u16, n: u16, matrix: &mut [u16]) -> u16
+pub fn mavdrusek_points(p: u16, l: u16, e: u16, n: u16, matrix: &mut [u16]) -> u16
     ensures answer { result ≡ (points_call (setup p l e n matrix.old)).number }
     ensures buffer { matrix.new ≡ points_left (setup p l e n matrix.old) }
 {
@@ -55,8 +53,7 @@ pub extern "C" fn mavdrusek_points(p: u16, l: u16, e: u16, n: u16, matrix: &mut 
 }
 
 // One holder's part of a dealing.
-#[unsafe(no_mangle)]
-pub extern "C" fn mavdrusek_deal(
+pub fn mavdrusek_deal(
     p: u16,
     l: u16,
     e: u16,
@@ -77,8 +74,7 @@ pub extern "C" fn mavdrusek_deal(
 }
 
 // Every holder's part of a dealing.
-#[unsafe(no_mangle)]
-pub extern "C" fn mavdrusek_deal_all(
+pub fn mavdrusek_deal_all(
     p: u16,
     l: u16,
     e: u16,
@@ -98,8 +94,7 @@ pub extern "C" fn mavdrusek_deal_all(
 }
 
 // One holder's part of a dealing and of a second one, tied to it by the map phi.
-#[unsafe(no_mangle)]
-pub extern "C" fn mavdrusek_deal_mapped(
+pub fn mavdrusek_deal_mapped(
     p: u16,
     l: u16,
     e: u16,
@@ -125,8 +120,7 @@ pub extern "C" fn mavdrusek_deal_mapped(
 }
 
 // Every holder's part of both.
-#[unsafe(no_mangle)]
-pub extern "C" fn mavdrusek_deal_mapped_all(
+pub fn mavdrusek_deal_mapped_all(
     p: u16,
     l: u16,
     e: u16,
@@ -151,8 +145,7 @@ pub extern "C" fn mavdrusek_deal_mapped_all(
 }
 
 // One holder's part of a zero dealing.
-#[unsafe(no_mangle)]
-pub extern "C" fn mavdrusek_deal_zero(
+pub fn mavdrusek_deal_zero(
     p: u16,
     l: u16,
     e: u16,
@@ -172,8 +165,7 @@ pub extern "C" fn mavdrusek_deal_zero(
 }
 
 // Every holder's part of a zero dealing.
-#[unsafe(no_mangle)]
-pub extern "C" fn mavdrusek_deal_zero_all(
+pub fn mavdrusek_deal_zero_all(
     p: u16,
     l: u16,
     e: u16,
@@ -193,8 +185,7 @@ pub extern "C" fn mavdrusek_deal_zero_all(
 
 // JUDGING
 // The pair value, for holder `to`, of the holder whose row part is g.
-#[unsafe(no_mangle)]
-pub extern "C" fn mavdrusek_pair_value(
+pub fn mavdrusek_pair_value(
     p: u16,
     l: u16,
     e: u16,
@@ -217,8 +208,7 @@ pub extern "C" fn mavdrusek_pair_value(
 }
 
 // A holder's judgement: verdict 1 accepts; 0 rejects, and names the lowest holder whose value differs.
-#[unsafe(no_mangle)]
-pub extern "C" fn mavdrusek_judge(
+pub fn mavdrusek_judge(
     p: u16,
     l: u16,
     e: u16,
@@ -239,8 +229,7 @@ pub extern "C" fn mavdrusek_judge(
 
 // A holder's judgement of two dealings tied by the map phi: verdict 1 accepts; 0 rejects, and names the lowest holder whose value differs in either, or
 // 65535 where only the check of the map fails.
-#[unsafe(no_mangle)]
-pub extern "C" fn mavdrusek_judge_mapped(
+pub fn mavdrusek_judge_mapped(
     p: u16,
     l: u16,
     e: u16,
@@ -264,8 +253,7 @@ pub extern "C" fn mavdrusek_judge_mapped(
 }
 
 // A holder's judgement of a zero dealing: verdict 1 accepts; 0 rejects, and names the lowest holder whose value differs.
-#[unsafe(no_mangle)]
-pub extern "C" fn mavdrusek_judge_zero(
+pub fn mavdrusek_judge_zero(
     p: u16,
     l: u16,
     e: u16,
@@ -285,8 +273,7 @@ pub extern "C" fn mavdrusek_judge_zero(
 }
 
 // The outcome: kept 1, with the shares written; 0 where it is aborted, and the lowest holder that said reject is named.
-#[unsafe(no_mangle)]
-pub extern "C" fn mavdrusek_outcome(
+pub fn mavdrusek_outcome(
     p: u16,
     l: u16,
     e: u16,
@@ -319,8 +306,7 @@ pub extern "C" fn mavdrusek_outcome(
 }
 
 // The dealer's rehearsal: fair 1; 0 and the first pair that disagrees, where `checker` checks the value of `sender`.
-#[unsafe(no_mangle)]
-pub extern "C" fn mavdrusek_rehearse(
+pub fn mavdrusek_rehearse(
     p: u16,
     l: u16,
     e: u16,
@@ -343,8 +329,7 @@ pub extern "C" fn mavdrusek_rehearse(
 
 // SHARES AND THEIR ROUNDS
 // The sum of the products of constants and one holder's shares, and the shares' round.
-#[unsafe(no_mangle)]
-pub extern "C" fn mavdrusek_combine(
+pub fn mavdrusek_combine(
     p: u16,
     constants: &[u16],
     shares: &[u16],
@@ -361,8 +346,7 @@ pub extern "C" fn mavdrusek_combine(
 }
 
 // A share and a zero share of its column, added, and the next round.
-#[unsafe(no_mangle)]
-pub extern "C" fn mavdrusek_refresh(
+pub fn mavdrusek_refresh(
     p: u16,
     share: u16,
     round: u16,
@@ -380,8 +364,7 @@ pub extern "C" fn mavdrusek_refresh(
 
 // SETS AND OPENINGS
 // Whether a set determines the secrets: 1 or 0.
-#[unsafe(no_mangle)]
-pub extern "C" fn mavdrusek_determines(
+pub fn mavdrusek_determines(
     p: u16,
     l: u16,
     e: u16,
@@ -407,8 +390,7 @@ pub extern "C" fn mavdrusek_determines(
 }
 
 // Whether a set is called private: 1 or 0.
-#[unsafe(no_mangle)]
-pub extern "C" fn mavdrusek_private(
+pub fn mavdrusek_private(
     p: u16,
     l: u16,
     e: u16,
@@ -434,8 +416,7 @@ pub extern "C" fn mavdrusek_private(
 }
 
 // The judgement of a set at a position: kind 1 for a row, 2 for a vector, 0 for neither, and the row steps; the row or a vector into 32 lent entries.
-#[unsafe(no_mangle)]
-pub extern "C" fn mavdrusek_judge_set(
+pub fn mavdrusek_judge_set(
     p: u16,
     l: u16,
     e: u16,
@@ -457,8 +438,7 @@ pub extern "C" fn mavdrusek_judge_set(
 }
 
 // Opens the shares of a set, by rising holder, which come with their rounds; refusal 6 gives the lowest position with no row.
-#[unsafe(no_mangle)]
-pub extern "C" fn mavdrusek_open(
+pub fn mavdrusek_open(
     p: u16,
     l: u16,
     e: u16,
@@ -480,12 +460,7 @@ pub extern "C" fn mavdrusek_open(
 
 // CORRECTIONS
 // Corrections as residues, for dealing.
-#[unsafe(no_mangle)]
-pub extern "C" fn mavdrusek_hold_corrections(
-    p: u16,
-    corrections: &[i32],
-    residues: &mut [u16],
-) -> u16
+pub fn mavdrusek_hold_corrections(p: u16, corrections: &[i32], residues: &mut [u16]) -> u16
     ensures answer { result ≡ (hold_call p corrections.now residues.old).number }
     ensures left { residues.new ≡ hold_left p corrections.now residues.old }
 {
@@ -493,12 +468,7 @@ pub extern "C" fn mavdrusek_hold_corrections(
 }
 
 // Residues read back into corrections.
-#[unsafe(no_mangle)]
-pub extern "C" fn mavdrusek_read_corrections(
-    p: u16,
-    residues: &[u16],
-    corrections: &mut [i32],
-) -> u16
+pub fn mavdrusek_read_corrections(p: u16, residues: &[u16], corrections: &mut [i32]) -> u16
     ensures answer { result ≡ (read_call p residues.now corrections.old).number }
     ensures left { corrections.new ≡ read_left p residues.now corrections.old }
 {
@@ -506,8 +476,7 @@ pub extern "C" fn mavdrusek_read_corrections(
 }
 
 // The sum of the products of signed constants and one holder's shares, and the shares' round.
-#[unsafe(no_mangle)]
-pub extern "C" fn mavdrusek_combine_signed(
+pub fn mavdrusek_combine_signed(
     p: u16,
     constants: &[i32],
     shares: &[u16],
@@ -524,8 +493,7 @@ pub extern "C" fn mavdrusek_combine_signed(
 }
 
 // Opens the shares of a set, by rising holder, which come with their rounds, into corrections; refusal 6 gives the lowest position with no row.
-#[unsafe(no_mangle)]
-pub extern "C" fn mavdrusek_open_signed(
+pub fn mavdrusek_open_signed(
     p: u16,
     l: u16,
     e: u16,
@@ -554,13 +522,7 @@ pub extern "C" fn mavdrusek_open_signed(
 
 // BOARD KEYS
 // Every holder's part of a key of sixteen bytes.
-#[unsafe(no_mangle)]
-pub extern "C" fn mavdrusek_deal_key(
-    key: &[u8],
-    random: &[u16],
-    gs: &mut [u16],
-    hs: &mut [u16],
-) -> u16
+pub fn mavdrusek_deal_key(key: &[u8], random: &[u16], gs: &mut [u16], hs: &mut [u16]) -> u16
     ensures answer { result ≡ (deal_key_call key.now random.now gs.old hs.old).number }
     ensures rows { gs.new ≡ deal_key_left_g key.now random.now gs.old hs.old }
     ensures columns { hs.new ≡ deal_key_left_h key.now random.now gs.old hs.old }
@@ -570,8 +532,7 @@ pub extern "C" fn mavdrusek_deal_key(
 
 // Opens the shares of a set, by column and then by rising holder, which come with their rounds, into the sixteen bytes of a key; refusal 6 gives the lowest
 // position with no row.
-#[unsafe(no_mangle)]
-pub extern "C" fn mavdrusek_open_key(
+pub fn mavdrusek_open_key(
     set: u32,
     shares: &[u16],
     rounds: &[u16],
@@ -588,15 +549,7 @@ pub extern "C" fn mavdrusek_open_key(
 
 // WRITING RECORDS
 // Writes an SU.
-#[unsafe(no_mangle)]
-pub extern "C" fn mavdrusek_write_setup(
-    p: u16,
-    l: u16,
-    e: u16,
-    n: u16,
-    matrix: &[u16],
-    out: &mut [u8],
-) -> u16
+pub fn mavdrusek_write_setup(p: u16, l: u16, e: u16, n: u16, matrix: &[u16], out: &mut [u8]) -> u16
     ensures answer { result ≡ (write_setup_call (setup p l e n matrix.now) out.old).number }
     ensures buffer { out.new ≡ write_setup_left (setup p l e n matrix.now) out.old }
 {
@@ -604,8 +557,7 @@ pub extern "C" fn mavdrusek_write_setup(
 }
 
 // Writes a DL.
-#[unsafe(no_mangle)]
-pub extern "C" fn mavdrusek_write_dealing(
+pub fn mavdrusek_write_dealing(
     p: u16,
     l: u16,
     e: u16,
@@ -624,8 +576,7 @@ pub extern "C" fn mavdrusek_write_dealing(
 }
 
 // Writes a PV.
-#[unsafe(no_mangle)]
-pub extern "C" fn mavdrusek_write_pair_value(
+pub fn mavdrusek_write_pair_value(
     p: u16,
     l: u16,
     e: u16,
@@ -649,8 +600,7 @@ pub extern "C" fn mavdrusek_write_pair_value(
 }
 
 // Writes a VD.
-#[unsafe(no_mangle)]
-pub extern "C" fn mavdrusek_write_verdict(
+pub fn mavdrusek_write_verdict(
     p: u16,
     l: u16,
     e: u16,
@@ -672,8 +622,7 @@ pub extern "C" fn mavdrusek_write_verdict(
 }
 
 // Writes an SH.
-#[unsafe(no_mangle)]
-pub extern "C" fn mavdrusek_write_share(
+pub fn mavdrusek_write_share(
     p: u16,
     l: u16,
     e: u16,
@@ -699,8 +648,7 @@ pub extern "C" fn mavdrusek_write_share(
 }
 
 // Writes a DF.
-#[unsafe(no_mangle)]
-pub extern "C" fn mavdrusek_write_mapped_dealing(
+pub fn mavdrusek_write_mapped_dealing(
     p: u16,
     l: u16,
     e: u16,
@@ -727,8 +675,7 @@ pub extern "C" fn mavdrusek_write_mapped_dealing(
 }
 
 // Writes a PF.
-#[unsafe(no_mangle)]
-pub extern "C" fn mavdrusek_write_mapped_pair_value(
+pub fn mavdrusek_write_mapped_pair_value(
     p: u16,
     l: u16,
     e: u16,
@@ -752,8 +699,7 @@ pub extern "C" fn mavdrusek_write_mapped_pair_value(
 }
 
 // Writes a DZ.
-#[unsafe(no_mangle)]
-pub extern "C" fn mavdrusek_write_zero_dealing(
+pub fn mavdrusek_write_zero_dealing(
     p: u16,
     l: u16,
     e: u16,
@@ -779,8 +725,7 @@ pub extern "C" fn mavdrusek_write_zero_dealing(
 
 // READING RECORDS
 // Reads the four numbers of an SU.
-#[unsafe(no_mangle)]
-pub extern "C" fn mavdrusek_read_setup_head(
+pub fn mavdrusek_read_setup_head(
     part: &[u8],
     p: &mut u16,
     l: &mut u16,
@@ -806,8 +751,7 @@ pub extern "C" fn mavdrusek_read_setup_head(
 }
 
 // Reads the matrix of an SU.
-#[unsafe(no_mangle)]
-pub extern "C" fn mavdrusek_read_setup_matrix(part: &[u8], matrix: &mut [u16]) -> u16
+pub fn mavdrusek_read_setup_matrix(part: &[u8], matrix: &mut [u16]) -> u16
     ensures answer { result ≡ (read_matrix_call part.now matrix.old).number }
     ensures buffer { matrix.new ≡ read_matrix_left part.now matrix.old }
 {
@@ -815,8 +759,7 @@ pub extern "C" fn mavdrusek_read_setup_matrix(part: &[u8], matrix: &mut [u16]) -
 }
 
 // Reads a DL.
-#[unsafe(no_mangle)]
-pub extern "C" fn mavdrusek_read_dealing(
+pub fn mavdrusek_read_dealing(
     p: u16,
     l: u16,
     e: u16,
@@ -844,8 +787,7 @@ pub extern "C" fn mavdrusek_read_dealing(
 }
 
 // Reads a PV.
-#[unsafe(no_mangle)]
-pub extern "C" fn mavdrusek_read_pair_value(
+pub fn mavdrusek_read_pair_value(
     p: u16,
     l: u16,
     e: u16,
@@ -875,8 +817,7 @@ pub extern "C" fn mavdrusek_read_pair_value(
 }
 
 // Reads a VD.
-#[unsafe(no_mangle)]
-pub extern "C" fn mavdrusek_read_verdict(
+pub fn mavdrusek_read_verdict(
     p: u16,
     l: u16,
     e: u16,
@@ -903,8 +844,7 @@ pub extern "C" fn mavdrusek_read_verdict(
 }
 
 // Reads an SH.
-#[unsafe(no_mangle)]
-pub extern "C" fn mavdrusek_read_share(
+pub fn mavdrusek_read_share(
     p: u16,
     l: u16,
     e: u16,
@@ -928,8 +868,7 @@ pub extern "C" fn mavdrusek_read_share(
 }
 
 // Which of two SH of one share supersedes, 1 or 2.
-#[unsafe(no_mangle)]
-pub extern "C" fn mavdrusek_superseding(
+pub fn mavdrusek_superseding(
     p: u16,
     l: u16,
     e: u16,
@@ -955,8 +894,7 @@ pub extern "C" fn mavdrusek_superseding(
 }
 
 // Reads a DF.
-#[unsafe(no_mangle)]
-pub extern "C" fn mavdrusek_read_mapped_dealing(
+pub fn mavdrusek_read_mapped_dealing(
     p: u16,
     l: u16,
     e: u16,
@@ -986,8 +924,7 @@ pub extern "C" fn mavdrusek_read_mapped_dealing(
 }
 
 // Reads a PF.
-#[unsafe(no_mangle)]
-pub extern "C" fn mavdrusek_read_mapped_pair_value(
+pub fn mavdrusek_read_mapped_pair_value(
     p: u16,
     l: u16,
     e: u16,
@@ -1017,8 +954,7 @@ pub extern "C" fn mavdrusek_read_mapped_pair_value(
 }
 
 // Reads a DZ.
-#[unsafe(no_mangle)]
-pub extern "C" fn mavdrusek_read_zero_dealing(
+pub fn mavdrusek_read_zero_dealing(
     p: u16,
     l: u16,
     e: u16,
@@ -1047,8 +983,7 @@ pub extern "C" fn mavdrusek_read_zero_dealing(
 
 // THE HOLDER'S FILE
 // Reads a holder's file and gives its contents as 27 numbers; a refused file gives the byte where the faulty record starts.
-#[unsafe(no_mangle)]
-pub extern "C" fn mavdrusek_read_file(file: &[u8], contents: &mut [u16], byte: &mut usize) -> u16
+pub fn mavdrusek_read_file(file: &[u8], contents: &mut [u16], byte: &mut usize) -> u16
     ensures answer { result ≡ (file_contents_call file.now contents.old).number }
     ensures byte { byte.new ≡ place 0 (file_contents_call file.now contents.old) byte.old }
     ensures buffer { contents.new ≡ file_contents_left file.now contents.old }
@@ -1064,8 +999,7 @@ pub extern "C" fn mavdrusek_read_file(file: &[u8], contents: &mut [u16], byte: &
 }
 
 // Prints a holder's file into a lent buffer of 512 bytes and gives how many there are; a refused file gives the byte as above.
-#[unsafe(no_mangle)]
-pub extern "C" fn mavdrusek_holder_file(
+pub fn mavdrusek_holder_file(
     file: &[u8],
     out: &mut [u8],
     count: &mut usize,
