@@ -1,8 +1,8 @@
 #!/usr/bin/env python3
-"""Respells the crates' own definitions and lemmas, words in snake case (no camel case), as today's Rattle has them: usage: respell.py [--docs]
+"""Respells the crates' own definitions and lemmas, words in snake case (no camel case), as today's Rattle has them: usage: respell.py [--try]
 It was run once, behind port.py and before anything was changed by hand. Names of types, modules, constructors of types and of Rust items stay: a name
 is turned only where it begins with a small letter and has a capital behind a small letter or a digit, and where a file of specs/ or proofs/ declares it.
---docs: the pages too, with the names that port.py respelled (git says which)."""
+--try: says how many names would be turned and which would fall together, and writes nothing."""
 import glob, os, re, subprocess, sys
 
 TOP = subprocess.run(['git', 'rev-parse', '--show-toplevel'], stdout=subprocess.PIPE, text=True).stdout.strip()
