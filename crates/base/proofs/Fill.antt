@@ -1,5 +1,5 @@
 -- The laws of `tab`, `laid` and `filled`: lengths, entries, and the store by which a loop writes one entry, or one row of a flat matrix, more.
-use mathlib.Core.Path.{◌≡◌, refl, ap, sym, ◌∙◌}
+use mathlib.Core.Path.{◌≡◌, refl, ap, sym, subst, ◌∙◌}
 use mathlib.Core.List.{List, [], ◌∷◌}
 use mathlib.Core.Logic.{◌⊎◌, inl, inr, ⊎_elim}
 use Prim.Native.Nat.{ℕ, zero, suc, ◌+◌, ◌-◌, ◌*◌, ◌<◌, ◌≤◌}
@@ -10,6 +10,9 @@ use native.Mathlib.Omega.{arith}
 use lib.Arith.{digits_div, digits_mod}
 use lib.ListN.{length, get_or, set, length-set}
 use lib.Seq.{ext_get_or, get_or-set_same, get_or-set_other}
+use denote.Param.Members.{Mut}
+use Rattle.std.specs.Array.{IsFromFnResultFrom, IsFromFnResult}
+use Rattle.std.specs.Fn.{Called}
 use Rattle.base.specs.Search.{Vec}
 use Rattle.base.specs.Fill.{tab_from, tab, laid, filled}
 use Rattle.base.specs.Matrix.{flat}
@@ -173,3 +176,16 @@ tab-vec p d f h = record { size = length-tab d f; small = λ k l. rw (get_d-tab 
 -- a list that is filled whole is the table
 pub filled-all : (f : ℕ → ℕ) (n : ℕ) (l : List ℕ) → length l ≡ n → filled f n l ≡ tab n f
 filled-all f n l e = rw (← e) (filled-whole f 0 l)
+
+-- what `array::from_fn` gives, where its closure changes nothing that it holds
+module _ {F A : Type 0} (g : Mut F (ℕ × Unit {0}) A) (f : F) (h : ℕ → A) (z : A) (l : List A) where
+  from_fn-at : (n i : ℕ) → IsFromFnResultFrom g f l i n → ((j : ℕ) (y : A) (q : F) → j < i + n → Called g f (j, tt) y q → (y ≡ h j) × (q ≡ f))
+      → (k : ℕ) → i ≤ k → k < i + n → get_or l k z ≡ h k
+  from_fn-at zero i w call k low high = absurd (omega arith)
+  from_fn-at (suc n) i w call k low high =
+      let r = call i w.1 w.0 (omega arith) w.3 in
+      either k i (get_or l k z ≡ h k) (λ e. rw e (w.2.1 z ∙ r.0))
+      (λ e. from_fn-at n (i + 1) (subst (λ (q : F). IsFromFnResultFrom g q l (i + 1) n) r.1 w.4) (λ j y q m. call j y q (omega arith)) k (omega (arith, e)) (omega arith))
+
+  pub tab-from_fn : (n : ℕ) → IsFromFnResult g f l n → ((j : ℕ) (y : A) (q : F) → j < n → Called g f (j, tt) y q → (y ≡ h j) × (q ≡ f)) → l ≡ tab n h
+  tab-from_fn n w call = tab-is n h z l w.long (λ k m. from_fn-at n 0 w.each (λ j y q b. call j y q (omega arith)) k (omega arith) (omega arith))

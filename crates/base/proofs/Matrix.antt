@@ -1,21 +1,23 @@
 -- Index arithmetic of flat matrices: a row and an entry lie inside, two rows do not overlap; and what keeps elements below p.
 use Prim.Native.Nat.{ℕ, zero, suc, ◌+◌, ◌*◌, ◌/◌, ◌%◌, ◌≤◌, ◌<◌}
-use mathlib.Core.Bool.{true}
+use mathlib.Core.Bool.{true, false, not, not-not, ◌||◌}
 use mathlib.Core.List.{List}
 use mathlib.Core.Logic.{◌≢◌, ◌⊎◌, inl, inr}
-use mathlib.Core.Path.{◌≡◌}
+use mathlib.Core.Path.{◌≡◌, sym, ◌∙◌}
 use native.Mathlib.Nat.{mul-le-mul_right, suc-mul, mul-zero, mod-lt, div-lt_iff_lt-mul}
 use native.Mathlib.Decide.{dec_lt}
 use native.Mathlib.Omega.{arith}
-use lib.Dec.{eqb, ltb}
+use lib.Dec.{eqb, leb, ltb}
 use lib.ListN.{length, get_or, set, replicate, length-replicate, get_or-replicate, get_or-eq_default}
 use lib.Seq.{get_or-set_same, get_or-set_other, set_out}
 use borrow.Author.Tests.{eqb-true, eq-eqb, ltb-true, lt-ltb}
+use Rattle.std.specs.List.{fold}
+use Rattle.std.proofs.lemmas.Bool.Decides.{nat_tests}
 use Rattle.base.specs.Fill.{tab, laid, filled}
 use Rattle.base.specs.Matrix.{Below, all_below, all_are}
 use Rattle.base.proofs.Choice.{either}
 use Rattle.base.proofs.Fill.{get_d-tab, length-tab, length-filled, get_d-filled, get_d-filled-past}
-use Rattle.base.proofs.Search.{every-at, every-all}
+use Rattle.base.proofs.Search.{every-at, every-all, every-ext, fold-any}
 
 pub row_fits : (rows d r : ℕ) → r < rows → r * d + d ≤ rows * d
 row_fits rows d r h = omega (arith, mul-le-mul_right d h, suc-mul r d)
@@ -102,3 +104,15 @@ are-is x l h = every-all (length l) (λ i. eqb (get_or l i 0) x) (λ k m. eq-eqb
 pub place_at : (d n t : ℕ) → t < n * d → (0 < d) × (t / d < n) × (t % d < d)
 place_at zero n t h = absurd (omega (arith, mul-zero n))
 place_at (suc d) n t h = (omega arith, (div-lt_iff_lt-mul {k = suc d} {x = t} {y = n} (omega arith)).1 h, mod-lt t (omega arith))
+
+-- the tests as folds
+pub not-leb : (p x : ℕ) → not (leb p x) ≡ ltb x p
+not-leb p x = grind (arith, nat_tests)
+
+pub below-fold : (p : ℕ) (l : List ℕ) → all_below p l ≡ not (fold (λ over x. over || leb p x) false l)
+unfolding all_below
+below-fold p l = sym (fold-any (λ x. leb p x) false 0 l ∙ every-ext (length l) _ _ (λ i h. not-leb p (get_or l i 0)))
+
+pub are-fold : (x : ℕ) (l : List ℕ) → all_are x l ≡ not (fold (λ other y. other || not (eqb y x)) false l)
+unfolding all_are
+are-fold x l = sym (fold-any (λ y. not (eqb y x)) false 0 l ∙ every-ext (length l) _ _ (λ i h. not-not (eqb (get_or l i 0) x)))

@@ -1,6 +1,6 @@
 -- The laws of the searches: what `every`, `first` and `first_vec` answer, and the steps by which a loop computes `every` and `first`.
 use mathlib.Core.Path.{◌≡◌, refl, ap, sym, ◌∙◌}
-use mathlib.Core.Bool.{Bool, true, false, ◌&&◌, ◌||◌, or_comm, false≢true}
+use mathlib.Core.Bool.{Bool, true, false, not, ◌&&◌, ◌||◌, or_comm, and_assoc, and-true, false≢true}
 use mathlib.Core.List.{List, [], ◌∷◌}
 use mathlib.Core.Logic.{⊎_elim}
 use mathlib.Core.Option.{Option, none, some, none-ne-some}
@@ -8,9 +8,10 @@ use Prim.Native.Nat.{ℕ, zero, suc, ◌+◌, ◌-◌, ◌≤◌, ◌<◌}
 use native.Mathlib.Numerals.{add-one}
 use native.Mathlib.Omega.{arith}
 use native.Mathlib.Nat.{not-suc-le-zero, le_of_suc-le-suc}
-use lib.Dec.{eqb, ltb}
+use lib.Dec.{ltb}
 use lib.ListN.{length, get_or}
 use borrow.Author.Tests.{ltb-true, ltb-false}
+use Rattle.std.specs.List.{fold}
 use Rattle.base.specs.Choice.{pick}
 use Rattle.base.specs.Search.{every, first_from, first, First, found, missing, first_of, with_head, first_vec, Vec}
 use Rattle.base.proofs.Choice.{either, below_suc, and_left, and_right, and_both}
@@ -43,20 +44,24 @@ unfolding every
 every-ext zero t u h = refl
 every-ext (suc n) t u h = rw (every-ext n t u (λ i l. h i (omega arith)), h n (omega arith)) refl
 
--- a mark that is 0 exactly while every number passed passes: one more passes, or fails
-pub every-passed : (t : ℕ → Bool) (i mark : ℕ) → t i ≡ true → eqb mark 0 ≡ every i t → eqb mark 0 ≡ every (i + 1) t
-every-passed t i mark e h = h ∙ sym (every-step i t ∙ ap (λ b. every i t && b) e ∙ and-true (every i t))
-  where
-    and-true : (b : Bool) → (b && true) ≡ b
-    and-true true = refl
-    and-true false = refl
+-- the first number set apart
+every-front : (n : ℕ) (t : ℕ → Bool) → every (suc n) t ≡ (t 0 && every n (λ i. t (suc i)))
+unfolding every
+every-front zero t = sym (and-true (t 0))
+every-front (suc n) t = ap (λ b. b && t (suc n)) (every-front n t) ∙ and_assoc (t 0) (every n (λ i. t (suc i))) (t (suc n))
 
-pub every-failed : (t : ℕ → Bool) (i mark : ℕ) → t i ≡ false → mark ≡ 1 → eqb mark 0 ≡ every (i + 1) t
-every-failed t i mark e h = rw h (sym (every-step i t ∙ ap (λ b. every i t && b) e ∙ and-false (every i t)))
+-- a fold over a list, which asks whether some entry fails
+pub fold-any : {A : Type 0} (u : A → Bool) (b : Bool) (z : A) (l : List A) → not (fold (λ a x. a || u x) b l) ≡ (not b && every (length l) (λ i. not (u (get_or l i z))))
+unfolding every
+fold-any u b z [] = sym (and-true (not b))
+fold-any u b z (x ∷ l) =
+    fold-any u (b || u x) z l
+    ∙ neither b (u x) (every (length l) (λ i. not (u (get_or l i z))))
+    ∙ ap (λ c. not b && c) (sym (every-front (length l) (λ i. not (u (get_or (x ∷ l) i z)))))
   where
-    and-false : (b : Bool) → (b && false) ≡ false
-    and-false true = refl
-    and-false false = refl
+    neither : (a b c : Bool) → (not (a || b) && c) ≡ (not a && (not b && c))
+    neither true b c = refl
+    neither false b c = refl
 
 -- FIRST
 from_is : (t : ℕ → Bool) (k i n : ℕ) → i + k ≡ n → ((j : ℕ) → j < i → t j ≡ false) → First t n (first_from t i k)

@@ -1,5 +1,6 @@
 pub mod Choice
 pub mod Rules
+pub mod Refusals
 pub mod Sum
 pub mod Search
 pub mod Fill

@@ -3,17 +3,75 @@
 
 ghost use Rattle.std.specs.Prelude.{◌≡◌, ◌+◌, ◌<◌, ◌≤◌, length, get_or};
 ghost use Rattle.base.specs.Rules.{or_when};
+ghost use Rattle.base.specs.Refusals.{number, refused_by};
 ghost use Rattle.base.specs.Fill.{laid};
 ghost use Rattle.base.specs.Matrix.{all_below, all_are};
 
-// One rule of a refusal table: a number that stands already stays, else `number` where its test holds.
-pub fn or_when(standing: u16, number: u16, holds: bool) -> u16
-    ensures { result ≡ or_when standing number holds }
+// What a call gives when it declines, with document 01's numbers. 14 is retired. An opening that declines by 6 or 7 has a type of its own.
+#[derive(Clone, Copy, Debug, PartialEq, Eq)]
+pub enum Refusal {
+    // p is none of the five primes, or not 65521 with corrections.
+    NoField = 1,
+    // ℓ, e or n is beyond its limits.
+    Limits = 2,
+    // A length is not the one needed.
+    Length = 3,
+    // A field element is p or more.
+    Element = 4,
+    // A holder, column, position or set is out of range.
+    Range = 5,
+    // Another mark than the record's.
+    Mark = 8,
+    // Dealing number 0, or not the file's.
+    DealingNumber = 9,
+    // A record comes again.
+    Repeated = 10,
+    // The file ends with a record missing.
+    Missing = 11,
+    // A verdict is neither 0 nor 1.
+    NoVerdict = 12,
+    // The own verdict is not what the own judgement gives.
+    OwnVerdict = 13,
+    // The field has fewer than d + n elements.
+    TooFewPoints = 15,
+    // An opened position is 256 and so no byte.
+    NoByte = 16,
+    // A record is not the next one due.
+    Order = 17,
+    // Round 65535 is the last.
+    LastRound = 18,
+    // The rounds of the shares differ.
+    Rounds = 19,
+    // Two records of one share at one round have unequal values.
+    UnequalValues = 20,
+    // The records are of different shares, or of combinations.
+    OtherShare = 21,
+    // A correction or constant is beyond the range.
+    Correction = 22,
+}
+
+impl Refusal {
+    pub fn number(self) -> u16
+        ensures { result ≡ number self }
+    {
+        self as u16
+    }
+}
+
+// One rule of a refusal table: the refusal, where its test holds.
+pub fn refuse_if(holds: bool, refusal: Refusal) -> Result<(), Refusal>
+    ensures { refused_by result ≡ or_when 0 (number refusal) holds }
 {
-    if standing == 0 {
-        if holds { number } else { 0 }
-    } else {
-        standing
+    if holds { Err(refusal) } else { Ok(()) }
+}
+
+// The number that a call gives when it declines, 0 where it answers.
+pub fn declined<T: Copy>(answer: Result<T, Refusal>) -> u16
+    ensures { result ≡ refused_by answer }
+{
+    match answer {
+        Ok(_) => 0,
+        Err(refusal) => refusal.number(),
     }
 }
 
@@ -22,47 +80,29 @@ pub fn at(s: &[u16], i: usize) -> u64
     requires { i < length s.now }
     ensures { (result ≡ get_or s.now i 0) × (result ≤ 65535) }
 {
-    s[i] as u64
+    u64::from(s[i])
 }
 
 // Whether every entry is below p. It reads the whole slice, so that it takes the same time for every content.
 pub fn all_below(s: &[u16], p: u16) -> bool
     ensures { result ≡ all_below p s.now }
 {
-    let mut over: u16 = 0;
-    let mut i = 0;
-    while i < s.len() {
-        if p <= s[i] {
-            over = 1;
-        }
-        i += 1;
-    }
-    over == 0
+    !s.iter().fold(false, |over, x| over | (p <= *x))
 }
 
 // Whether every entry is x. It reads the whole slice too.
 pub fn all_are(s: &[u16], x: u16) -> bool
     ensures { result ≡ all_are x s.now }
 {
-    let mut other: u16 = 0;
-    let mut i = 0;
-    while i < s.len() {
-        if s[i] != x {
-            other = 1;
-        }
-        i += 1;
-    }
-    other == 0
+    !s.iter().fold(false, |other, y| other | (*y != x))
 }
 
-// Copies n entries of m, from `from` on, into a, from t on.
+// Copies n entries of m, from `from` on, into a, from t on. They are few, as in a row of a matrix, and for few the slice's own copy takes longer.
 pub fn copy(a: &mut [u16], t: usize, m: &[u16], from: usize, n: usize)
     requires { (t + n ≤ length a.old) × (from + n ≤ length m.now) }
     ensures { a.new ≡ laid (λ j. get_or m.now (from + j) 0) t n a.old }
 {
-    let mut j = 0;
-    while j < n {
+    for j in 0..n {
         a[t + j] = m[from + j];
-        j += 1;
     }
 }

@@ -24,23 +24,17 @@ ghost use Rattle.holder_file.specs.Calls.{file_contents_call, file_contents_left
 ghost use Rattle.set_questions.specs.Buffer.{SetBuffer};
 ghost use Rattle.places.specs.Places.{setup, place, named_place, answered_place, refused_place};
 
-use field::{Chosen, Field};
-use holder_file::{FileGiven, Printing};
-use record_layouts::{
-    DealingRead, DealingRecord, PairRead, PairRecord, SetupRead, ShareRecord, VerdictRead,
-    VerdictRecord,
-};
-use scheme::{Decided, Fate, Params, Settled, Value};
+use field::Field;
+use holder_file::FileRefusal;
+use record_layouts::{DealingRecord, PairRecord, ShareRecord, VerdictRecord};
+use scheme::{Fate, Params};
 use superseding::Superseding;
 
 // Whether p is one of the five fields' numbers.
 pub fn mavdrusek_field(p: u16) -> u16
     ensures { result ≡ (field_answer p).number }
 {
-    match Field::new(p) {
-        Chosen::Of(_) => 0,
-        Chosen::NoField => 1,
-    }
+    base::declined(Field::new(p))
 }
 
 // DEALING
@@ -49,7 +43,7 @@ pub fn mavdrusek_points(p: u16, l: u16, e: u16, n: u16, matrix: &mut [u16]) -> u
     ensures answer { result ≡ (points_call (setup p l e n matrix.old)).number }
     ensures buffer { matrix.new ≡ points_left (setup p l e n matrix.old) }
 {
-    scheme::declined(points::points(Params { p, l, e, n }, matrix))
+    base::declined(points::points(Params { p, l, e, n }, matrix))
 }
 
 // One holder's part of a dealing.
@@ -70,7 +64,7 @@ pub fn mavdrusek_deal(
     ensures column { h.new ≡ deal_left_h (setup p l e n matrix.now) secrets.now random.now holder g.old h.old }
 {
     let s = Params { p, l, e, n };
-    scheme::declined(dealing::deal(s, matrix, secrets, random, holder, g, h))
+    base::declined(dealing::deal(s, matrix, secrets, random, holder, g, h))
 }
 
 // Every holder's part of a dealing.
@@ -90,7 +84,7 @@ pub fn mavdrusek_deal_all(
     ensures columns { hs.new ≡ deal_all_left_h (setup p l e n matrix.now) secrets.now random.now gs.old hs.old }
 {
     let s = Params { p, l, e, n };
-    scheme::declined(dealing::deal_all(s, matrix, secrets, random, gs, hs))
+    base::declined(dealing::deal_all(s, matrix, secrets, random, gs, hs))
 }
 
 // One holder's part of a dealing and of a second one, tied to it by the map phi.
@@ -114,7 +108,7 @@ pub fn mavdrusek_deal_mapped(
     ensures parts { buffers g.new h.new g2.new h2.new ≡ deal_mapped_left (setup p l e n matrix.now) secrets.now random.now phi.now random2.now holder (buffers g.old h.old g2.old h2.old) }
 {
     let s = Params { p, l, e, n };
-    scheme::declined(mapped_dealing::deal_mapped(
+    base::declined(mapped_dealing::deal_mapped(
         s, matrix, secrets, random, phi, random2, holder, g, h, g2, h2,
     ))
 }
@@ -139,7 +133,7 @@ pub fn mavdrusek_deal_mapped_all(
     ensures parts { buffers gs.new hs.new gs2.new hs2.new ≡ deal_mapped_all_left (setup p l e n matrix.now) secrets.now random.now phi.now random2.now (buffers gs.old hs.old gs2.old hs2.old) }
 {
     let s = Params { p, l, e, n };
-    scheme::declined(mapped_dealing::deal_mapped_all(
+    base::declined(mapped_dealing::deal_mapped_all(
         s, matrix, secrets, random, phi, random2, gs, hs, gs2, hs2,
     ))
 }
@@ -161,7 +155,7 @@ pub fn mavdrusek_deal_zero(
     ensures column { h.new ≡ deal_zero_left_h (setup p l e n matrix.now) random.now holder g.old h.old }
 {
     let s = Params { p, l, e, n };
-    scheme::declined(zero_dealing::deal_zero(s, matrix, random, holder, g, h))
+    base::declined(zero_dealing::deal_zero(s, matrix, random, holder, g, h))
 }
 
 // Every holder's part of a zero dealing.
@@ -180,7 +174,7 @@ pub fn mavdrusek_deal_zero_all(
     ensures columns { hs.new ≡ deal_zero_all_left_h (setup p l e n matrix.now) random.now gs.old hs.old }
 {
     let s = Params { p, l, e, n };
-    scheme::declined(zero_dealing::deal_zero_all(s, matrix, random, gs, hs))
+    base::declined(zero_dealing::deal_zero_all(s, matrix, random, gs, hs))
 }
 
 // JUDGING
@@ -199,11 +193,11 @@ pub fn mavdrusek_pair_value(
     ensures value { value.new ≡ place 0 (pair_value_call (setup p l e n matrix.now) g.now to) value.old }
 {
     match judging::pair_value(Params { p, l, e, n }, matrix, g, to) {
-        Value::Is(x) => {
+        Ok(x) => {
             *value = x;
             0
         }
-        Value::Refused(k) => k,
+        Err(refusal) => refusal.number(),
     }
 }
 
@@ -290,18 +284,16 @@ pub fn mavdrusek_outcome(
     ensures left { shares.new ≡ outcome_left (setup p l e n []) g.now verdicts.now shares.old }
 {
     match outcomes::outcome(Params { p, l, e, n }, g, verdicts, shares) {
-        Settled::As(f) => match f {
-            Fate::Kept => {
-                *kept = 1;
-                0
-            }
-            Fate::Aborted(i) => {
-                *kept = 0;
-                *named = i;
-                0
-            }
-        },
-        Settled::Refused(k) => k,
+        Ok(Fate::Kept) => {
+            *kept = 1;
+            0
+        }
+        Ok(Fate::Aborted(i)) => {
+            *kept = 0;
+            *named = i;
+            0
+        }
+        Err(refusal) => refusal.number(),
     }
 }
 
@@ -376,17 +368,8 @@ pub fn mavdrusek_determines(
     ensures answer { result ≡ (determines_call (setup p l e n matrix.now) set).number }
     ensures yes { yes.new ≡ place 0 (determines_call (setup p l e n matrix.now) set) yes.old }
 {
-    match set_questions::determines(Params { p, l, e, n }, matrix, set) {
-        Decided::Yes => {
-            *yes = 1;
-            0
-        }
-        Decided::No => {
-            *yes = 0;
-            0
-        }
-        Decided::Refused(k) => k,
-    }
+    let answer = set_questions::determines(Params { p, l, e, n }, matrix, set);
+    places::decided(answer, yes)
 }
 
 // Whether a set is called private: 1 or 0.
@@ -402,17 +385,8 @@ pub fn mavdrusek_private(
     ensures answer { result ≡ (private_call (setup p l e n matrix.now) set).number }
     ensures yes { yes.new ≡ place 0 (private_call (setup p l e n matrix.now) set) yes.old }
 {
-    match set_questions::private(Params { p, l, e, n }, matrix, set) {
-        Decided::Yes => {
-            *yes = 1;
-            0
-        }
-        Decided::No => {
-            *yes = 0;
-            0
-        }
-        Decided::Refused(k) => k,
-    }
+    let answer = set_questions::private(Params { p, l, e, n }, matrix, set);
+    places::decided(answer, yes)
 }
 
 // The judgement of a set at a position: kind 1 for a row, 2 for a vector, 0 for neither, and the row steps; the row or a vector into 32 lent entries.
@@ -464,7 +438,7 @@ pub fn mavdrusek_hold_corrections(p: u16, corrections: &[i32], residues: &mut [u
     ensures answer { result ≡ (hold_call p corrections.now residues.old).number }
     ensures left { residues.new ≡ hold_left p corrections.now residues.old }
 {
-    scheme::declined(signed::hold(p, corrections, residues))
+    base::declined(signed::hold(p, corrections, residues))
 }
 
 // Residues read back into corrections.
@@ -472,7 +446,7 @@ pub fn mavdrusek_read_corrections(p: u16, residues: &[u16], corrections: &mut [i
     ensures answer { result ≡ (read_call p residues.now corrections.old).number }
     ensures left { corrections.new ≡ read_left p residues.now corrections.old }
 {
-    scheme::declined(signed::read(p, residues, corrections))
+    base::declined(signed::read(p, residues, corrections))
 }
 
 // The sum of the products of signed constants and one holder's shares, and the shares' round.
@@ -527,7 +501,7 @@ pub fn mavdrusek_deal_key(key: &[u8], random: &[u16], gs: &mut [u16], hs: &mut [
     ensures rows { gs.new ≡ deal_key_left_g key.now random.now gs.old hs.old }
     ensures columns { hs.new ≡ deal_key_left_h key.now random.now gs.old hs.old }
 {
-    scheme::declined(board_keys::deal_key(key, random, gs, hs))
+    base::declined(board_keys::deal_key(key, random, gs, hs))
 }
 
 // Opens the shares of a set, by column and then by rising holder, which come with their rounds, into the sixteen bytes of a key; refusal 6 gives the lowest
@@ -553,7 +527,7 @@ pub fn mavdrusek_write_setup(p: u16, l: u16, e: u16, n: u16, matrix: &[u16], out
     ensures answer { result ≡ (write_setup_call (setup p l e n matrix.now) out.old).number }
     ensures buffer { out.new ≡ write_setup_left (setup p l e n matrix.now) out.old }
 {
-    scheme::declined(list_writing::write_setup(Params { p, l, e, n }, matrix, out))
+    base::declined(list_writing::write_setup(Params { p, l, e, n }, matrix, out))
 }
 
 // Writes a DL.
@@ -572,7 +546,7 @@ pub fn mavdrusek_write_dealing(
     ensures buffer { out.new ≡ write_dealing_left (setup p l e n []) (record { dealing = dealing; holder = holder }) g.now h.now out.old }
 {
     let s = Params { p, l, e, n };
-    scheme::declined(list_writing::write_dealing(s, DealingRecord { dealing, holder }, g, h, out))
+    base::declined(list_writing::write_dealing(s, DealingRecord { dealing, holder }, g, h, out))
 }
 
 // Writes a PV.
@@ -596,7 +570,7 @@ pub fn mavdrusek_write_pair_value(
         receiver,
         value,
     };
-    scheme::declined(record_writing::write_pair_value(Params { p, l, e, n }, x, out))
+    base::declined(record_writing::write_pair_value(Params { p, l, e, n }, x, out))
 }
 
 // Writes a VD.
@@ -618,7 +592,7 @@ pub fn mavdrusek_write_verdict(
         holder,
         verdict,
     };
-    scheme::declined(record_writing::write_verdict(Params { p, l, e, n }, x, out))
+    base::declined(record_writing::write_verdict(Params { p, l, e, n }, x, out))
 }
 
 // Writes an SH.
@@ -644,7 +618,7 @@ pub fn mavdrusek_write_share(
         value,
         round,
     };
-    scheme::declined(record_writing::write_share(Params { p, l, e, n }, x, out))
+    base::declined(record_writing::write_share(Params { p, l, e, n }, x, out))
 }
 
 // Writes a DF.
@@ -664,7 +638,7 @@ pub fn mavdrusek_write_mapped_dealing(
     ensures buffer { out.new ≡ write_mapped_left (setup p l e n []) (record { dealing = dealing; holder = holder }) g.now h.now phi.now out.old }
 {
     let s = Params { p, l, e, n };
-    scheme::declined(list_writing::write_mapped_dealing(
+    base::declined(list_writing::write_mapped_dealing(
         s,
         DealingRecord { dealing, holder },
         g,
@@ -695,7 +669,7 @@ pub fn mavdrusek_write_mapped_pair_value(
         receiver,
         value,
     };
-    scheme::declined(record_writing::write_mapped_pair_value(Params { p, l, e, n }, x, out))
+    base::declined(record_writing::write_mapped_pair_value(Params { p, l, e, n }, x, out))
 }
 
 // Writes a DZ.
@@ -714,7 +688,7 @@ pub fn mavdrusek_write_zero_dealing(
     ensures buffer { out.new ≡ write_zero_left (setup p l e n []) (record { dealing = dealing; holder = holder }) g.now h.now out.old }
 {
     let s = Params { p, l, e, n };
-    scheme::declined(list_writing::write_zero_dealing(
+    base::declined(list_writing::write_zero_dealing(
         s,
         DealingRecord { dealing, holder },
         g,
@@ -739,14 +713,14 @@ pub fn mavdrusek_read_setup_head(
     ensures n { n.new ≡ place 3 (read_setup_call part.now) n.old }
 {
     match record_reading::read_setup_head(part) {
-        SetupRead::Is(s) => {
+        Ok(s) => {
             *p = s.p;
             *l = s.l;
             *e = s.e;
             *n = s.n;
             0
         }
-        SetupRead::Refused(k) => k,
+        Err(refusal) => refusal.number(),
     }
 }
 
@@ -755,7 +729,7 @@ pub fn mavdrusek_read_setup_matrix(part: &[u8], matrix: &mut [u16]) -> u16
     ensures answer { result ≡ (read_matrix_call part.now matrix.old).number }
     ensures buffer { matrix.new ≡ read_matrix_left part.now matrix.old }
 {
-    scheme::declined(record_reading::read_setup_matrix(part, matrix))
+    base::declined(record_reading::read_setup_matrix(part, matrix))
 }
 
 // Reads a DL.
@@ -776,14 +750,8 @@ pub fn mavdrusek_read_dealing(
     ensures row { g.new ≡ read_dealing_left_g (setup p l e n []) part.now g.old h.old }
     ensures column { h.new ≡ read_dealing_left_h (setup p l e n []) part.now g.old h.old }
 {
-    match record_reading::read_dealing(Params { p, l, e, n }, part, g, h) {
-        DealingRead::Is(x) => {
-            *dealing = x.dealing;
-            *holder = x.holder;
-            0
-        }
-        DealingRead::Refused(k) => k,
-    }
+    let answer = record_reading::read_dealing(Params { p, l, e, n }, part, g, h);
+    places::dealing_read(answer, dealing, holder)
 }
 
 // Reads a PV.
@@ -804,16 +772,8 @@ pub fn mavdrusek_read_pair_value(
     ensures receiver { receiver.new ≡ place 2 (read_pair_call (setup p l e n []) part.now) receiver.old }
     ensures value { value.new ≡ place 3 (read_pair_call (setup p l e n []) part.now) value.old }
 {
-    match record_reading::read_pair_value(Params { p, l, e, n }, part) {
-        PairRead::Is(x) => {
-            *dealing = x.dealing;
-            *sender = x.sender;
-            *receiver = x.receiver;
-            *value = x.value;
-            0
-        }
-        PairRead::Refused(k) => k,
-    }
+    let answer = record_reading::read_pair_value(Params { p, l, e, n }, part);
+    places::pair_read(answer, dealing, sender, receiver, value)
 }
 
 // Reads a VD.
@@ -833,13 +793,13 @@ pub fn mavdrusek_read_verdict(
     ensures verdict { verdict.new ≡ place 2 (read_verdict_call (setup p l e n []) part.now) verdict.old }
 {
     match record_reading::read_verdict(Params { p, l, e, n }, part) {
-        VerdictRead::Is(x) => {
+        Ok(x) => {
             *dealing = x.dealing;
             *holder = x.holder;
             *verdict = x.verdict;
             0
         }
-        VerdictRead::Refused(k) => k,
+        Err(refusal) => refusal.number(),
     }
 }
 
@@ -881,15 +841,15 @@ pub fn mavdrusek_superseding(
     ensures which { which.new ≡ place 0 (superseding_call (setup p l e n []) first.now second.now) which.old }
 {
     match superseding::superseding_record(Params { p, l, e, n }, first, second) {
-        Superseding::First => {
+        Ok(Superseding::First) => {
             *which = 1;
             0
         }
-        Superseding::Second => {
+        Ok(Superseding::Second) => {
             *which = 2;
             0
         }
-        Superseding::Refused(k) => k,
+        Err(refusal) => refusal.number(),
     }
 }
 
@@ -913,14 +873,8 @@ pub fn mavdrusek_read_mapped_dealing(
     ensures column { h.new ≡ read_mapped_left_h (setup p l e n []) part.now g.old h.old phi.old }
     ensures map { phi.new ≡ read_mapped_left_phi (setup p l e n []) part.now g.old h.old phi.old }
 {
-    match record_reading::read_mapped_dealing(Params { p, l, e, n }, part, g, h, phi) {
-        DealingRead::Is(x) => {
-            *dealing = x.dealing;
-            *holder = x.holder;
-            0
-        }
-        DealingRead::Refused(k) => k,
-    }
+    let answer = record_reading::read_mapped_dealing(Params { p, l, e, n }, part, g, h, phi);
+    places::dealing_read(answer, dealing, holder)
 }
 
 // Reads a PF.
@@ -941,16 +895,8 @@ pub fn mavdrusek_read_mapped_pair_value(
     ensures receiver { receiver.new ≡ place 2 (read_mapped_pair_call (setup p l e n []) part.now) receiver.old }
     ensures value { value.new ≡ place 3 (read_mapped_pair_call (setup p l e n []) part.now) value.old }
 {
-    match record_reading::read_mapped_pair_value(Params { p, l, e, n }, part) {
-        PairRead::Is(x) => {
-            *dealing = x.dealing;
-            *sender = x.sender;
-            *receiver = x.receiver;
-            *value = x.value;
-            0
-        }
-        PairRead::Refused(k) => k,
-    }
+    let answer = record_reading::read_mapped_pair_value(Params { p, l, e, n }, part);
+    places::pair_read(answer, dealing, sender, receiver, value)
 }
 
 // Reads a DZ.
@@ -971,14 +917,8 @@ pub fn mavdrusek_read_zero_dealing(
     ensures row { g.new ≡ read_zero_left_g (setup p l e n []) part.now g.old h.old }
     ensures column { h.new ≡ read_zero_left_h (setup p l e n []) part.now g.old h.old }
 {
-    match record_reading::read_zero_dealing(Params { p, l, e, n }, part, g, h) {
-        DealingRead::Is(x) => {
-            *dealing = x.dealing;
-            *holder = x.holder;
-            0
-        }
-        DealingRead::Refused(k) => k,
-    }
+    let answer = record_reading::read_zero_dealing(Params { p, l, e, n }, part, g, h);
+    places::dealing_read(answer, dealing, holder)
 }
 
 // THE HOLDER'S FILE
@@ -989,12 +929,12 @@ pub fn mavdrusek_read_file(file: &[u8], contents: &mut [u16], byte: &mut usize) 
     ensures buffer { contents.new ≡ file_contents_left file.now contents.old }
 {
     match holder_file::file_contents(file, contents) {
-        FileGiven::Given => 0,
-        FileGiven::RefusedAt(k, at) => {
-            *byte = at;
-            k
+        Ok(()) => 0,
+        Err(FileRefusal::At(refusal, start)) => {
+            *byte = start;
+            refusal.number()
         }
-        FileGiven::Refused(k) => k,
+        Err(FileRefusal::Lent(refusal)) => refusal.number(),
     }
 }
 
@@ -1011,14 +951,14 @@ pub fn mavdrusek_holder_file(
     ensures buffer { out.new ≡ holder_file_left file.now out.old }
 {
     match holder_file::holder_file(file, out) {
-        Printing::Bytes(n) => {
-            *count = n;
+        Ok(bytes) => {
+            *count = bytes;
             0
         }
-        Printing::RefusedAt(k, start) => {
-            *byte = start;
-            k
+        Err(FileRefusal::At(refusal, from)) => {
+            *byte = from;
+            refusal.number()
         }
-        Printing::Refused(k) => k,
+        Err(FileRefusal::Lent(refusal)) => refusal.number(),
     }
 }

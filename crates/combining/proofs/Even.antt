@@ -1,29 +1,31 @@
--- Where a combination is refused by nothing, one pass over elements and rounds finds nothing odd, and the other way.
+-- Where one pass over elements and rounds finds nothing odd, a combination in a field is refused by nothing.
 -- or-none, xor-none: of two numbers' bits none is set, or they differ in none
+-- none-above: a number is not above another
 -- odd_step: one place more
--- even-all: elements below p and rounds that agree are even; all-even: and the other way
--- combine-long, combine-even, combine-fine: a combination of which nothing is refused, and one of which nothing is odd
+-- even-all: of even elements and rounds, the elements are below p and the rounds agree
+-- is-field: rule 1 does not apply
+-- combine-fine: nothing is refused of a combination of which nothing is odd
 use mathlib.Core.Path.{◌≡◌, refl, sym, ap, ◌∙◌}
 use mathlib.Core.Bool.{Bool, true, false, not, ◌&&◌, false≢true}
 use mathlib.Core.List.{List}
-use Prim.Native.Nat.{ℕ, ◌+◌, ◌%◌, ◌≤◌, ◌<◌}
+use Prim.Native.Nat.{ℕ, ◌+◌, ◌-◌, ◌%◌, ◌≤◌, ◌<◌}
 use native.Mathlib.Omega.{arith}
 use lib.Bits.{bit_or, bit_xor, or_add_and, xor_add_and, and_le_l, and_le_r, xor_self}
 use lib.Dec.{eqb, leb}
 use lib.ListN.{length}
-use borrow.Author.Tests.{eqb-true, eqb-false, eq-eqb, ne_eqb, leb-true, le-leb}
-use Rattle.base.specs.Rules.{refusal}
+use borrow.Author.Tests.{eqb-true, eqb-false, eq-eqb, ne_eqb, leb-true, leb-false}
+use Rattle.base.specs.Rules.{or_when, refusal}
 use Rattle.base.specs.Search.{every}
 use Rattle.base.specs.Matrix.{all_below}
-use Rattle.base.proofs.Search.{every-step, every-at, every-all}
-use Rattle.base.proofs.Matrix.{below-is, below_by}
+use Rattle.base.proofs.Search.{every-step, every-at}
+use Rattle.base.proofs.Matrix.{below-is}
 use Rattle.field.specs.Fields.{is_field}
 use Rattle.field.specs.Dot.{at}
 use Rattle.field.proofs.Fields.{five-elim, field-five}
 use Rattle.scheme.specs.Opening.{round_of, agree}
 use Rattle.scheme.specs.Calls.{combine_rules}
-use Rattle.scheme.proofs.Calls.{vec_of, combine-ok, combine-accepts}
-use Rattle.scheme.proofs.Rounds.{agree_at, agree-is}
+use Rattle.scheme.proofs.Calls.{vec_of, combine-accepts}
+use Rattle.scheme.proofs.Rounds.{agree-is}
 use Rattle.combining.specs.Inner.{even, as_long}
 
 -- BITS
@@ -41,6 +43,14 @@ xor-none a b = go (eqb a b) refl
     go : (t : Bool) → eqb a b ≡ t → eqb (bit_xor a b) 0 ≡ t
     go true e = rw (eqb-true a b e) (eq-eqb (bit_xor b b) 0 (xor_self b))
     go false e = ne_eqb (bit_xor a b) 0 (λ z. eqb-false a b e (omega (arith, z, xor_add_and a b, and_le_l a b, and_le_r a b)))
+
+-- how far a number is above another is 0 exactly where it is not above
+pub none-above : (x most : ℕ) → eqb (x - most) 0 ≡ leb x most
+none-above x most = go (leb x most) refl
+  where
+    go : (t : Bool) → leb x most ≡ t → eqb (x - most) 0 ≡ t
+    go true e = eq-eqb (x - most) 0 (omega (arith, leb-true x most e))
+    go false e = ne_eqb (x - most) 0 (λ z. omega (arith, z, leb-false x most e))
 
 -- ONE PASS
 pub odd_step : (t : ℕ → Bool) (i o a b c : ℕ) → eqb o 0 ≡ every i t → ((eqb a 0 && eqb b 0) && eqb c 0) ≡ t i
@@ -68,14 +78,6 @@ module _ (p : ℕ) (us vs rs : List ℕ) (pos : 0 < p) (small : p < 65536) where
   abbrev most : ℕ
   most = (p + 65535) % 65536
 
-  pub all-even : all_below p us ≡ true → all_below p vs ≡ true → length vs ≡ length us → length rs ≡ length us → agree rs ≡ true
-      → every (length us) (even ((p + 65535) % 65536) us vs rs (round_of rs)) ≡ true
-  unfolding even
-  all-even a b m n one =
-      every-all (length us) (even most us vs rs (round_of rs)) (λ i l.
-      rw (le-leb (at us i) most (omega (arith, below_by p us pos a i)), le-leb (at vs i) most (omega (arith, below_by p vs pos b i)))
-      (eq-eqb (at rs i) (round_of rs) (agree_at rs one i (omega (arith, l, n)))))
-
   pub even-all : every (length us) (even ((p + 65535) % 65536) us vs rs (round_of rs)) ≡ true → length vs ≡ length us → length rs ≡ length us
       → (all_below p us ≡ true) × (all_below p vs ≡ true) × (agree rs ≡ true)
   unfolding even
@@ -87,7 +89,14 @@ module _ (p : ℕ) (us vs rs : List ℕ) (pos : 0 < p) (small : p < 65536) where
         agree-is (round_of rs) rs (λ i l. eqb-true (at rs i) (round_of rs) (each i (omega (arith, l, n))).2),
       )
 
--- a field's p is in that range
+-- where rule 1 does not apply, p is a field's, and a field's p is in that range
+pub is-field : (p : ℕ) (none : Bool) → none ≡ not (is_field p) → 0 ≡ or_when 0 1 none → is_field p ≡ true
+is-field p none e z = go (is_field p) (rw e at z)
+  where
+    go : (b : Bool) → 0 ≡ or_when 0 1 (not b) → b ≡ true
+    go true z = refl
+    go false z = absurd (omega (arith, z))
+
 pub in-range : (p : ℕ) → is_field p ≡ true → (0 < p) × (p < 65536)
 in-range p e =
     five-elim p (λ q. (0 < q) × (q < 65536)) (omega arith, omega arith) (omega arith, omega arith) (omega arith, omega arith) (omega arith, omega arith)
@@ -105,20 +114,7 @@ module _ (p : ℕ) (cs xs rs : List ℕ) where
       let h = both (eqb (length xs) (length cs)) (eqb (length rs) (length cs)) (leb (length cs) 64) e in
       (eqb-true (length xs) (length cs) h.0, eqb-true (length rs) (length cs) h.1, leb-true (length cs) 64 h.2)
 
-  -- nothing refused is of the right lengths, and nothing of it is odd
-  pub combine-long : refusal (combine_rules p cs xs rs) ≡ 0 → long ≡ true
-  combine-long z =
-      let k = combine-ok p cs xs rs z in
-      rw (eq-eqb (length xs) (length cs) k.shares.size, eq-eqb (length rs) (length cs) k.rounds) (le-leb (length cs) 64 k.few)
-
-  pub combine-even : refusal (combine_rules p cs xs rs) ≡ 0 → all ≡ true
-  combine-even z =
-      let k = combine-ok p cs xs rs z in
-      let r = in-range p k.field in
-      all-even p cs xs rs r.0 r.1 (below-is p cs k.constants.small) (below-is p xs (λ i l. k.shares.small i (omega (arith, l, k.shares.size))))
-      k.shares.size k.rounds k.one-round
-
-  -- and the other way, in a field
+  -- of right lengths and with nothing odd, in a field, nothing is refused
   pub combine-fine : is_field p ≡ true → long ≡ true → all ≡ true → refusal (combine_rules p cs xs rs) ≡ 0
   combine-fine f e h =
       let r = in-range p f in
@@ -133,6 +129,3 @@ module _ (p : ℕ) (cs xs rs : List ℕ) where
         few = l.2;
         one-round = k.2;
       })
-
-  pub no-field-refused : not (is_field p) ≡ true → refusal (combine_rules p cs xs rs) ≡ 1
-  no-field-refused e = rw e refl

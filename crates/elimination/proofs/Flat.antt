@@ -27,7 +27,7 @@ use Rattle.row_steps.proofs.Rows.{below-add, below-scale}
 use Rattle.field.specs.Dot.{at}
 use Rattle.gauss.specs.Gauss.{State, scaled, clear, usable, pivot_of, use_row, column, gauss, start, reduced, elsewhere, others, column_steps, steps}
 use Rattle.gauss.proofs.Steps.{column-steps-le}
-use Rattle.elimination.specs.Inner.{buffers, other_entry, Reduction}
+use Rattle.elimination.specs.Inner.{buffers, other_entry, ColumnCleared, Reduction}
 use Rattle.elimination.specs.Elimination.{clear_row, clear_to, Flat, view, flat_pivot, flat_use, flat_column, flat_reduce, flat_steps, Shows}
 
 -- A COLUMN CLEARED
@@ -124,40 +124,49 @@ module _ (p W k c : ℕ) where
     own-entry h = e ∙ rw (ne_eqb (r * W) (k * W) (λ s. ⊎_elim (λ m. omega arith) (λ m. omega arith) (rows_apart W r k h)))
 
     -- it is the pivot row or has no entry: it stays and does not count
-    pub row-passed : f ≡ 0 → (b ≡ clear_row p W k c r b) × (bit (elsewhere k (λ i. entry W b i c) r) ≡ 0)
+    passed : f ≡ 0 → (b ≡ clear_row p W k c r b) × (bit (elsewhere k (λ i. entry W b i c) r) ≡ 0)
     unfolding clear_row elsewhere bit
-    row-passed z =
+    passed z =
         either r k _
         (λ h. (rw (eq-eqb r k h) refl, rw (eq-eqb k r (sym h)) refl))
         (λ h. let v = eq-eqb (entry W b r c) 0 (sym (own-entry h) ∙ z) in (rw (ne_eqb r k h, v) refl, rw (ne_eqb k r (λ s. h (sym s)), v) refl))
 
     -- or a multiple of the pivot row is subtracted
-    pub other_row : f ≢ 0 → r ≢ k
-    other_row n h = n (e ∙ rw (eq-eqb (r * W) (k * W) (ap (λ x. x * W) h)))
+    not-pivot : f ≢ 0 → r ≢ k
+    not-pivot n h = n (e ∙ rw (eq-eqb (r * W) (k * W) (ap (λ x. x * W) h)))
 
-    pub row-cleared : f ≢ 0 → (add_row p (p - f) (r * W) (k * W) W b ≡ clear_row p W k c r b) × (bit (elsewhere k (λ i. entry W b i c) r) ≡ 1)
+    cleared : f ≢ 0 → (add_row p (p - f) (r * W) (k * W) W b ≡ clear_row p W k c r b) × (bit (elsewhere k (λ i. entry W b i c) r) ≡ 1)
     unfolding clear_row elsewhere bit
-    row-cleared n =
-        let h = other_row n in
+    cleared n =
+        let h = not-pivot n in
         let v = ne_eqb (entry W b r c) 0 (λ z. n (own-entry h ∙ z)) in
         (rw (ne_eqb r k h, v, ← own-entry h) refl, rw (ne_eqb k r (λ s. h (sym s)), v) refl)
-
-    pub other-below : 0 < p → Below p b → f < p
-    other-below pos all = rw e (picked (λ x. x < p) (eqb (r * W) (k * W)) 0 (entry W b r c) pos (all (r * W + c)))
 
   -- what is left after the rows before r and row r, and how many were counted
   pub rows-below : (r : ℕ) (a b : List ℕ) → b ≡ clear_to p W k c r a → 0 < p → Below p a → Below p b
   rows-below r a b e pos all = rw e (below-clear r a pos all)
 
-  pub rows_step : (r : ℕ) (a b m : List ℕ) → b ≡ clear_to p W k c r a → m ≡ clear_row p W k c r b → m ≡ clear_to p W k c (suc r) a
-  unfolding clear_to
-  rows_step r a b m e g = g ∙ ap (clear_row p W k c r) e
+  pub other-below : (t f : ℕ) (b : List ℕ) → f ≡ other_entry b t (k * W) c → 0 < p → Below p b → f < p
+  other-below t f b e pos all = rw e (picked (λ x. x < p) (eqb t (k * W)) 0 (at b (t + c)) pos (all (t + c)))
 
-  pub count-step : (r n : ℕ) (a b : List ℕ) → c < W → b ≡ clear_to p W k c r a → n ≡ others r k (λ i. entry W a i c)
-      → (m : ℕ) → bit (elsewhere k (λ i. entry W b i c) r) ≡ m → n + m ≡ others (suc r) k (λ i. entry W a i c)
-  unfolding others elsewhere sum
-  count-step r n a b l e f m g =
-      ap₂ ◌+◌ f (sym g ∙ ap (λ x. bit (not (eqb k r) && not (eqb x 0))) (ap (λ (z : List ℕ). entry W z r c) e ∙ clear-late r a r c (omega arith) l))
+  -- one row more, which has been passed over, or from which a multiple of the pivot row has been taken
+  module _ (t r f n m : ℕ) (a b x : List ℕ) (l : c < W) (q : t ≡ r * W) (e : f ≡ other_entry b t (k * W) c) (so : ColumnCleared p r W k c a b n) where
+    here : f ≡ other_entry b (r * W) (k * W) c
+    here = e ∙ ap (λ z. other_entry b z (k * W) c) q
+
+    one-more : x ≡ clear_row p W k c r b → bit (elsewhere k (λ i. entry W b i c) r) + n ≡ m → ColumnCleared p (r + 1) W k c a x m
+    unfolding clear_to others elsewhere sum
+    one-more g h =
+        record {
+          matrix = rw add-one (g ∙ ap (clear_row p W k c r) so.matrix);
+          steps = rw add-one (omega (arith, h, so.steps, ap (λ y. bit (not (eqb k r) && not (eqb y 0))) (ap (λ (z : List ℕ). entry W z r c) so.matrix ∙ clear-late r a r c (omega arith) l)));
+        }
+
+    pub row_passed : f ≡ 0 → x ≡ b → m ≡ n → ColumnCleared p (r + 1) W k c a x m
+    row_passed z g h = let s = passed r f b l here z in one-more (g ∙ s.0) (omega (arith, s.1))
+
+    pub row_taken : f ≢ 0 → x ≡ add_row p (p - f) t (k * W) W b → m ≡ n + 1 → ColumnCleared p (r + 1) W k c a x m
+    row_taken z g h = let s = cleared r f b l here z in one-more (g ∙ ap (λ y. add_row p (p - f) y (k * W) W b) q ∙ s.0) (omega (arith, s.1))
 
   -- scaling the pivot row leaves the other rows, and the pivot row does not count
   pub scaling-counts : (R h : ℕ) (a : List ℕ) → c < W → others R k (λ i. entry W (scale_row p h (k * W) W a) i c) ≡ others R k (λ i. entry W a i c)
@@ -313,8 +322,8 @@ module _ (p R W : ℕ) where
 
   below-reduced : (c : ℕ) (s : Flat) → 0 < p → Below p s.mat → Below p (flat_reduce p R W c s).mat
   unfolding flat_reduce
-  below-reduced zero s pos all = all
-  below-reduced (suc c) s pos all = below-column c (flat_reduce p R W c s) pos (below-reduced c s pos all)
+  below-reduced zero s hp all = all
+  below-reduced (suc c) s hp all = below-column c (flat_reduce p R W c s) hp (below-reduced c s hp all)
 
   pub below-reduce : (c : ℕ) (s t : Flat) → t ≡ flat_reduce p R W c s → 0 < p → Below p s.mat → Below p t.mat
   below-reduce c s t e pos all = rw e (below-reduced c s pos all)

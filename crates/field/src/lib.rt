@@ -6,17 +6,12 @@ ghost use Rattle.field.specs.Prime.{Prime, Inverse, Inverses};
 ghost use Rattle.field.specs.Fields.{is_field, field_answer, order_of, paper};
 ghost use Rattle.field.specs.Dot.{dot, along};
 
+use base::Refusal;
+
 // A field, by its number of elements. The number is private: outside this crate the constructor alone gives a field.
 #[derive(Clone, Copy)]
 pub struct Field {
     p: u16,
-}
-
-// The answer to the wish for a field: the field, or refusal 1.
-#[derive(Clone, Copy)]
-pub enum Chosen {
-    Of(Field),
-    NoField,
 }
 
 impl Field {
@@ -30,14 +25,12 @@ impl Field {
 
     pub const P65521: u16 = 65521;
 
-    pub fn new(p: u16) -> Chosen
+    pub fn new(p: u16) -> Result<Field, Refusal>
         ensures { paper result ≡ field_answer p }
     {
         match p {
-            Field::P2 | Field::P7 | Field::P251 | Field::P257 | Field::P65521 => {
-                Chosen::Of(Field { p })
-            }
-            _ => Chosen::NoField,
+            Field::P2 | Field::P7 | Field::P251 | Field::P257 | Field::P65521 => Ok(Field { p }),
+            _ => Err(Refusal::NoField),
         }
     }
 
@@ -53,32 +46,29 @@ impl Field {
 pub fn no_field(p: u16) -> bool
     ensures { result ≡ not (is_field p) }
 {
-    match Field::new(p) {
-        Chosen::Of(_) => false,
-        Chosen::NoField => true,
-    }
+    Field::new(p).is_err()
 }
 
-// The remainder of x by a division.
-fn remainder(p: u16, x: u64) -> u16
-    requires { 0 < p }
-    ensures { result ≡ x % p }
+// The remainder of x by a constant, which needs no division.
+fn remainder<const P: u16>(x: u64) -> u16
+    requires { 0 < P }
+    ensures { result ≡ x % P }
 {
-    (x % (p as u64)) as u16
+    (x % u64::from(P)) as u16
 }
 
-// The remainder of x. A constant modulus needs no division.
+// The remainder of x.
 pub fn residue(p: u16, x: u64) -> u16
     requires { 0 < p }
     ensures { result ≡ x % p }
 {
     match p {
-        Field::P2 => remainder(2, x),
-        Field::P7 => remainder(7, x),
-        Field::P251 => remainder(251, x),
-        Field::P257 => remainder(257, x),
-        Field::P65521 => remainder(65521, x),
-        _ => remainder(p, x),
+        Field::P2 => remainder::<2>(x),
+        Field::P7 => remainder::<7>(x),
+        Field::P251 => remainder::<251>(x),
+        Field::P257 => remainder::<257>(x),
+        Field::P65521 => remainder::<65521>(x),
+        _ => (x % u64::from(p)) as u16,
     }
 }
 
@@ -87,7 +77,7 @@ pub fn product(p: u16, a: u16, b: u16) -> u16
     requires { 0 < p }
     ensures { result ≡ a * b % p }
 {
-    residue(p, (a as u64) * (b as u64))
+    residue(p, u64::from(a) * u64::from(b))
 }
 
 // The negative of an element.
@@ -112,13 +102,9 @@ pub fn dot_product(
     requires by_index { (k : ℕ) → k < d → v_at + k * v_step < length v.now }
     ensures { result ≡ dot d (along u.now u_at 1) (along v.now v_at v_step) % p }
 {
-    let mut sum: u64 = 0;
-    let mut k = 0;
-    while k < d {
-        let x = base::at(u, u_at + k);
-        let y = base::at(v, v_at + k * v_step);
-        sum += x * y;
-        k += 1;
+    let mut sum = 0;
+    for k in 0..d {
+        sum += base::at(u, u_at + k) * base::at(v, v_at + k * v_step);
     }
     residue(p, sum)
 }
@@ -153,8 +139,7 @@ fn inverse_257(table: &[u16; 257], a: u16) -> u16
     requires inverses { Inverses table.now }
     ensures { Inverse 257 a result }
 {
-    let i = a as usize;
-    table[i]
+    table[usize::from(a)]
 }
 
 // The inverse modulo a prime, worked out: a times `acc` is `cur` throughout, and `cur` falls to 1.

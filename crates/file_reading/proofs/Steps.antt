@@ -5,7 +5,7 @@ use mathlib.Core.List.{List, [], ◌++◌}
 use mathlib.Core.Path.{◌≡◌, refl, sym, ap, subst, ◌∙◌}
 use native.Mathlib.Nat.{mul-le-mul}
 use native.Mathlib.Omega.{arith}
-use borrow.Author.Tests.{eq-eqb, ne_eqb, lt-ltb, le-ltb, eqb-true, eqb-false, ltb-false, leb-false, not-false}
+use borrow.Author.Tests.{eq-eqb, ne_eqb, le-ltb, eqb-true, eqb-false, ltb-false, leb-false, not-false}
 use lib.Dec.{eqb, ltb, lit≤}
 use lib.ListN.{length, take, drop, replicate, length-drop}
 use lib.Seq.{get_or-take, length-take-le}
@@ -32,14 +32,18 @@ use Rattle.record_words.proofs.Words.{length-words, get_d_words}
 use Rattle.record_layouts.specs.Records.{DealingParts, mark_su, mark_df, mark_dz, due, setup_at, setup_size, mapped_size, dealing_at, dealing_g, dealing_h, parts_h, mapped_phi, read_setup_rules, standing_rules, params_at}
 use Rattle.record_layouts.proofs.Calls.{setup-read, dim-small, matrix-small}
 use Rattle.record_layouts.proofs.Layouts.{Lawful, dealing-lawful, zero_lawful}
+use Rattle.base.specs.Refusals.{number}
+use Rattle.base.proofs.Refusals.{above_zero}
+use Rattle.file_records.specs.declared.Head.{Head}
+use Rattle.file_records.specs.declared.Fault.{Fault}
+use Rattle.file_records.specs.Received.{place, fault_at, reached}
 use Rattle.file_records.specs.declared.Sent.{Sent}
 use Rattle.file_records.specs.declared.PartLists.{PartLists}
-use Rattle.file_records.specs.Inner.{Sends, Small, HoldsPart}
+use Rattle.file_records.specs.Inner.{IsFault, IsSent, Small, HoldsPart}
 use Rattle.file_records.proofs.Reading.{all_pass, values-small, values2-small, verdicts-small}
-use Rattle.file_reading.specs.declared.Told.{Told}
 use Rattle.file_reading.specs.Contents.{Contents, is_mapped, is_zero, columns, part_layout, values2, verdict_of, judgement, fate, kept_shares, kept_mapped}
 use Rattle.file_reading.specs.File.{FileRead, refused_at, whole, setup_fault, has_zero, dealing_fault, has_map, mapped_rules, mapped_fault, first_byte, start, head_of, kind_at, of_contents, or_refused, of_received, of_mapped, of_dealing, read_file, eight, params_of, told}
-use Rattle.file_reading.specs.Inner.{part_of, zero_in, second_of, tied_in, Fair, contents_in, Tells}
+use Rattle.file_reading.specs.Inner.{part_of, zero_in, second_of, tied_in, Fair, contents_in}
 
 -- A REFUSAL IS NO CONTENTS
 is_whole : FileRead → Bool
@@ -57,16 +61,6 @@ contents_or D (whole C) = C
 pub same-contents : (C D : Contents) → whole C ≡ whole D → C ≡ D
 unfolding contents_or
 same-contents C D e = ap (contents_or C) e
-
-pub tells-refused : (k byte : ℕ) (t : Told) (x : FileRead) → refused_at k byte ≡ x → Tells x (record { refusal = k; byte = byte; told = t })
-tells-refused k byte t x e =
-    subst (λ (y : FileRead). Tells y (record { refusal = k; byte = byte; told = t })) e
-    (record { number = refl; byte = refl; contents = λ C q. absurd (not-whole k byte C q) })
-
-pub tells-whole : (C : Contents) (t : Told) (x : FileRead) → whole C ≡ x → t ≡ told C → Tells x (record { refusal = 0; byte = 0; told = t })
-tells-whole C t x e q =
-    subst (λ (y : FileRead). Tells y (record { refusal = 0; byte = 0; told = t })) e
-    (record { number = refl; byte = refl; contents = λ D d. q ∙ ap told (same-contents C D d) })
 
 -- EACH TEST PICKS WHAT IS READ
 module _ (C : Contents) (len : ℕ) where
@@ -115,14 +109,6 @@ both-fit a b s h k = omega (arith, length-drop a s)
 
 -- the fault from the byte on where SU ends
 module _ (S : Setup) (t : List ℕ) where
-  pub deal-11 : length t ≡ 0 → 11 ≡ dealing_fault S t
-  unfolding dealing_fault
-  deal-11 e = rw (eq-eqb (length t) 0 e) refl
-
-  pub deal-10 : (length t ≡ 0 → ⊥) → is_second t ≡ true → 10 ≡ dealing_fault S t
-  unfolding dealing_fault
-  deal-10 n b = rw (ne_eqb (length t) 0 n, b) refl
-
   pub deal-own : (length t ≡ 0 → ⊥) → is_second t ≡ false → refusal (standing_rules (part_layout (has_zero t)) S t) ≡ dealing_fault S t
   unfolding dealing_fault
   deal-own n b = rw (ne_eqb (length t) 0 n, b) refl
@@ -135,12 +121,6 @@ deal-clear S t e = go (eqb (length t) 0) (is_second t) e
     go true b e = absurd (omega arith)
     go false true e = absurd (omega arith)
     go false false e = e
-
--- a DL or DZ that is cut short in its mark
-pub deal-3 : (S : Setup) (t : List ℕ) → (length t ≡ 0 → ⊥) → length t < 2 → 3 ≡ dealing_fault S t
-deal-3 S t n l =
-    let two = lt-ltb (length t) 2 l in
-    sym (rw two refl) ∙ deal-own S t n (rw two refl)
 
 -- a DL or DZ that is not refused
 pub dealing-read : (S : Setup) (z : Bool) (t : List ℕ) → Limits S → refusal (standing_rules (part_layout z) S t) ≡ 0
@@ -160,11 +140,6 @@ dealing-read S z t L e =
 pub has-no-place : (z : Bool) (t : List ℕ) → z ≡ true → has_map z t ≡ false
 unfolding has_map
 has-no-place z t e = rw e refl
-
-pub has-none : (z : Bool) (t : List ℕ) → length t < 2 → has_map z t ≡ false
-unfolding has_map
-has-none true t l = refl
-has-none false t l = rw (lt-ltb (length t) 2 l) refl
 
 pub has-mark : (z : Bool) (t : List ℕ) → z ≡ false → 2 ≤ length t → has_map z t ≡ eqb (word_at t 0) mark_df
 unfolding has_map
@@ -218,10 +193,6 @@ kind-same S z false t v w e = refl
 pub setup-own : (s : List ℕ) → (length s ≡ 0 → ⊥) → refusal (read_setup_rules s) ≡ setup_fault s
 unfolding setup_fault
 setup-own s n = rw (ne_eqb (length s) 0 n) refl
-
-pub setup-11 : (s : List ℕ) → length s ≡ 0 → 11 ≡ setup_fault s
-unfolding setup_fault
-setup-11 s e = rw (eq-eqb (length s) 0 e) refl
 
 pub setup-clear : (s : List ℕ) → setup_fault s ≡ 0 → refusal (read_setup_rules s) ≡ 0
 unfolding setup_fault
@@ -326,43 +297,51 @@ shares-read S k t r H =
     H.shares ∙ rw (w, length-words t 3 S.l) (ap (λ (l : List ℕ). words_at t 3 S.l ++ l) (drop-zeros S.l 8))
 
 -- ALL RECORDS, by what was received
-module _ (s : List ℕ) (F : Fair s) (z : mapped_fault (setup_at s) (dealing_at (part_of s)) (zero_in s) (second_of s) ≡ 0) (r : Sent)
-    (W : Sends (head_of (setup_at s) (dealing_at (part_of s)) (zero_in s) (tied_in s)) (drop (start (setup_at s) (zero_in s) (tied_in s)) s) r) where
+module _ (s : List ℕ) (F : Fair s) (z : mapped_fault (setup_at s) (dealing_at (part_of s)) (zero_in s) (second_of s) ≡ 0) where
   abbrev S : Setup
   S = setup_at s
 
   abbrev from : ℕ
   from = start (setup_at s) (zero_in s) (tied_in s)
 
-  abbrev read : FileRead
-  read = of_contents (contents_in s (take (setup_at s).n r.values) (take (setup_at s).n r.values2) (take (setup_at s).n r.verdicts)) (length s)
+  abbrev head : Head
+  head = head_of (setup_at s) (dealing_at (part_of s)) (zero_in s) (tied_in s)
 
-  all_read : or_refused r.refusal (from + r.byte) read ≡ read_file s
+  pub sent-refused : (f : Fault) → IsFault head (drop from s) f → refused_at (number f.refusal) (from + f.byte) ≡ read_file s
   unfolding of_received
-  all_read =
-      rw (W.number, W.byte, W.values, W.verdicts, kind-same S (zero_in s) (tied_in s) (second_of s) (take S.n r.values2) _ W.values2)
-      (file-next s F.setup S refl F.dealing refl refl refl refl z)
-
-  pub sent-refused : (r.refusal ≡ 0 → ⊥) → refused_at r.refusal (from + r.byte) ≡ read_file s
-  sent-refused n = refused-here r.refusal (from + r.byte) read n ∙ all_read
-
-  pub record SentIs : Type 0 where
-    pub received : Vec S.p S.n (take S.n r.values)
-    pub received2 : tied_in s ≡ true → Vec S.p S.n (take S.n r.values2)
-    pub heard : Vec 2 S.n (take S.n r.verdicts)
-    pub is : read ≡ read_file s
-
-  pub sent-next : r.refusal ≡ 0 → SentIs
-  sent-next none =
-      let h = head_of S (dealing_at (part_of s)) (zero_in s) (tied_in s) in
+  sent-refused f W =
       let t = drop from s in
-      let all = (all_pass h t (sym W.number ∙ none)).1 in
-      record {
-        received = rw W.values (values-small h t all);
-        received2 = λ b. rw (W.values2 b) (values2-small h t all b);
-        heard = rw W.verdicts (verdicts-small h t all);
-        is = goes_on r.refusal (from + r.byte) read none ∙ all_read;
-      }
+      let k = fault_at head t (reached head t) in
+      rw (W.is, W.byte) (refused-here k (from + place head (reached head t)) _ (λ e. above_zero f.refusal (W.is ∙ e)) ∙ file-next s F.setup S refl F.dealing refl refl refl refl z)
+
+  module _ (r : Sent) (W : IsSent head (drop from s) r) where
+    abbrev read : FileRead
+    read = of_contents (contents_in s (take (setup_at s).n r.values) (take (setup_at s).n r.values2) (take (setup_at s).n r.verdicts)) (length s)
+
+    all_read : read ≡ read_file s
+    unfolding of_received
+    all_read =
+        let t = drop from s in
+        let k = fault_at head t (reached head t) in
+        rw (W.values, W.verdicts, kind-same S (zero_in s) (tied_in s) (second_of s) (take S.n r.values2) _ W.values2)
+        (goes_on k (from + place head (reached head t)) _ W.faultless ∙ file-next s F.setup S refl F.dealing refl refl refl refl z)
+
+    pub record SentIs : Type 0 where
+      pub received : Vec S.p S.n (take S.n r.values)
+      pub received2 : tied_in s ≡ true → Vec S.p S.n (take S.n r.values2)
+      pub heard : Vec 2 S.n (take S.n r.verdicts)
+      pub is : read ≡ read_file s
+
+    pub sent-next : SentIs
+    sent-next =
+        let t = drop from s in
+        let all = (all_pass head t W.faultless).1 in
+        record {
+          received = rw W.values (values-small head t all);
+          received2 = λ b. rw (W.values2 b) (values2-small head t all b);
+          heard = rw W.verdicts (verdicts-small head t all);
+          is = all_read;
+        }
 
 -- WHAT IS TOLD
 pub fate-same : (s : Params) (m verdicts : List ℕ) → fate_of (setup_of s []) verdicts ≡ fate_of (setup_of s m) verdicts

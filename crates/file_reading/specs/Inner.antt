@@ -2,22 +2,25 @@
 -- part_of, second_of: the file from the byte on where SU ends, and where DL or DZ ends
 -- zero_in, tied_in: whether the file is a zero dealing's, and whether it has a DF
 -- Fair: SU and DL or DZ are not refused
+-- Refuses: a fault is the refusal that is read
 -- FrontIn, ReadsFront: what stands in SU and DL or DZ; what the stage that reads them gives
--- ReadsMap: what is read of a DF behind them
+-- MapIn, ReadsMap: what is read of a DF behind them; what the stage that reads it gives
 -- contents_in, PartsIn, ReadsParts: what stands in all records; what the stage that reads them gives
 -- JudgedIn: the judgement of the contents, and the shares that stand in DL or DZ, and DF
--- Tells: what the code gives is what is read
-use Rattle.std.specs.Prelude.{◌≡◌, Bool, true, List, ℕ, length, take, drop}
+-- TellsWhole, Tells: what the code gives is what is read
+use Rattle.std.specs.Prelude.{◌≡◌, Bool, true, List, ℕ, Result, Ok, Err, length, take, drop}
 use Rattle.base.specs.Search.{Vec}
+use Rattle.base.specs.Refusals.{number}
 use Rattle.scheme.specs.Dealing.{shares}
 use Rattle.record_layouts.specs.Records.{params_at, setup_at, setup_size, dealing_at, dealing_g, parts_h}
+use Rattle.file_records.specs.declared.Fault.{Fault}
 use Rattle.file_reading.specs.declared.Front.{Front}
 use Rattle.file_reading.specs.declared.SecondFront.{SecondFront}
 use Rattle.file_reading.specs.declared.Parts.{Parts}
 use Rattle.file_reading.specs.declared.Own.{Own}
-use Rattle.file_reading.specs.declared.Reading.{Reading}
+use Rattle.file_reading.specs.declared.Told.{Told}
 use Rattle.file_reading.specs.Contents.{Contents, columns, shares_of, judgement}
-use Rattle.file_reading.specs.File.{FileRead, refused_at, whole, setup_fault, dealing_fault, has_zero, has_map, mapped_fault, first_byte, start, kind_at, contents_of, of_contents, read_file, number_of, byte_of, eight, told}
+use Rattle.file_reading.specs.File.{FileRead, refused_at, whole, setup_fault, dealing_fault, has_zero, has_map, mapped_fault, first_byte, start, kind_at, contents_of, of_contents, read_file, eight, told}
 
 abbrev pub part_of : List ℕ → List ℕ
 part_of s = drop (setup_size (setup_at s)) s
@@ -42,15 +45,22 @@ pub record FrontIn (s : List ℕ) (f : Front) : Type 0 where
   pub zero : f.zero ≡ zero_in s
   pub byte : f.byte ≡ first_byte (setup_at s) (zero_in s)
 
-pub record ReadsFront (s : List ℕ) (f : Front) : Type 0 where
-  pub refused : (f.refusal ≡ 0 → ⊥) → refused_at f.refusal f.byte ≡ read_file s
-  pub next : f.refusal ≡ 0 → FrontIn s f
+-- the file is refused so
+abbrev pub Refuses : FileRead → Fault → Type 0
+Refuses x f = refused_at (number f.refusal) f.byte ≡ x
 
-pub record ReadsMap (s : List ℕ) (r : SecondFront) : Type 0 where
+abbrev pub ReadsFront : List ℕ → Result Front Fault → Type 0
+ReadsFront s (Ok f) = FrontIn s f
+ReadsFront s (Err f) = Refuses (read_file s) f
+
+pub record MapIn (s : List ℕ) (r : SecondFront) : Type 0 where
   pub mapped : r.mapped ≡ tied_in s
-  pub number : r.refusal ≡ mapped_fault (setup_at s) (dealing_at (part_of s)) (zero_in s) (second_of s)
-  pub refused : (r.refusal ≡ 0 → ⊥) → r.byte ≡ first_byte (setup_at s) (zero_in s)
-  pub next : r.refusal ≡ 0 → r.byte ≡ start (setup_at s) (zero_in s) (tied_in s)
+  pub fair : mapped_fault (setup_at s) (dealing_at (part_of s)) (zero_in s) (second_of s) ≡ 0
+  pub byte : r.byte ≡ start (setup_at s) (zero_in s) (tied_in s)
+
+abbrev pub ReadsMap : List ℕ → Result SecondFront Fault → Type 0
+ReadsMap s (Ok r) = MapIn s r
+ReadsMap s (Err f) = Refuses (read_file s) f
 
 abbrev pub contents_in : (s values values2 verdicts : List ℕ) → Contents
 contents_in s values values2 verdicts =
@@ -76,16 +86,20 @@ pub record PartsIn (s : List ℕ) (r : Parts) : Type 0 where
   pub heard : Vec 2 (setup_at s).n (take (setup_at s).n r.verdicts)
   pub is : of_contents (contents_read s r) (length s) ≡ read_file s
 
-pub record ReadsParts (s : List ℕ) (r : Parts) : Type 0 where
-  pub refused : (r.refusal ≡ 0 → ⊥) → refused_at r.refusal r.byte ≡ read_file s
-  pub next : r.refusal ≡ 0 → PartsIn s r
+abbrev pub ReadsParts : List ℕ → Result Parts Fault → Type 0
+ReadsParts s (Ok r) = PartsIn s r
+ReadsParts s (Err f) = Refuses (read_file s) f
 
 pub record JudgedIn (C : Contents) (r : Own) : Type 0 where
   pub judgement : r.judgement ≡ judgement C
   pub shares : r.shares ≡ eight (shares C.setup C.g)
   pub shares2 : r.shares2 ≡ eight (shares_of C.setup C.kind)
 
-pub record Tells (x : FileRead) (r : Reading) : Type 0 where
-  pub number : r.refusal ≡ number_of x
-  pub byte : r.byte ≡ byte_of x
-  pub contents : (C : Contents) → x ≡ whole C → r.told ≡ told C
+pub record TellsWhole (x : FileRead) (t : Told) : Type 0 where
+  pub contents : Contents
+  pub is : x ≡ whole contents
+  pub same : t ≡ told contents
+
+abbrev pub Tells : FileRead → Result Told Fault → Type 0
+Tells x (Ok t) = TellsWhole x t
+Tells x (Err f) = Refuses x f

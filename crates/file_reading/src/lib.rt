@@ -1,15 +1,18 @@
 // A holder's file read from a lent slice: a refusal with the byte where the faulty record starts, or what the file tells.
 #![tactic(auto)]
 
-ghost use Rattle.std.specs.Prelude.{◌≡◌, true, false, [], ◌≤◌, length};
+ghost use Rattle.std.specs.Prelude.{◌≡◌, true, false, not, ◌&&◌, [], ◌≤◌, eqb, ltb, length};
 ghost use Rattle.base.specs.Rules.{refusal};
+ghost use Rattle.base.specs.Refusals.{refused_by};
 ghost use Rattle.scheme.specs.Setup.{setup_of};
+ghost use Rattle.record_words.specs.Words.{word_at};
 ghost use Rattle.record_layouts.specs.Records.{standing_rules};
 ghost use Rattle.file_reading.specs.Contents.{columns, part_layout};
-ghost use Rattle.file_reading.specs.File.{mapped_rules, read_file};
+ghost use Rattle.file_reading.specs.File.{setup_fault, dealing_fault, mapped_rules, read_file};
 ghost use Rattle.file_reading.specs.Inner.{FrontIn, ReadsFront, ReadsMap, contents_read, PartsIn, ReadsParts, JudgedIn, Tells};
 
-use file_records::Head;
+use base::Refusal;
+use file_records::{Fault, Head};
 use record_layouts::{DEALING_HEAD, DealingRecord, SETUP_HEAD};
 use scheme::{Fate, Judgement, Outcome, Params};
 
@@ -27,28 +30,18 @@ pub struct Told {
     pub zero: bool,
 }
 
-// A refusal and its byte, or 0 and what the file tells.
-#[derive(Clone, Copy)]
-pub struct Reading {
-    pub refusal: u16,
-    pub byte: usize,
-    pub told: Told,
-}
-
-// The numbers of SU and DL or DZ: a refusal and its byte, or 0 and the byte where DL or DZ ends.
+// The numbers of SU and DL or DZ, and the byte where DL or DZ ends.
 #[derive(Clone, Copy)]
 pub struct Front {
-    pub refusal: u16,
     pub byte: usize,
     pub setup: Params,
     pub record: DealingRecord,
     pub zero: bool,
 }
 
-// Whether a DF comes behind them: a refusal and its byte, or 0 and the byte where the PV start.
+// Whether a DF comes behind them, and the byte where the PV start.
 #[derive(Clone, Copy)]
 pub struct SecondFront {
-    pub refusal: u16,
     pub byte: usize,
     pub mapped: bool,
 }
@@ -56,8 +49,6 @@ pub struct SecondFront {
 // The numbers of all records, with what the n holders sent.
 #[derive(Clone, Copy)]
 pub struct Parts {
-    pub refusal: u16,
-    pub byte: usize,
     pub setup: Params,
     pub record: DealingRecord,
     pub mapped: bool,
@@ -75,49 +66,6 @@ pub struct Own {
     pub shares2: [u16; 8],
 }
 
-// What a refused file tells.
-fn nothing() -> Told {
-    Told {
-        setup: Params {
-            p: 0,
-            l: 0,
-            e: 0,
-            n: 0,
-        },
-        dealing: 0,
-        holder: 0,
-        outcome: Outcome {
-            judgement: Judgement::Reject(0),
-            fate: Fate::Aborted(0),
-        },
-        shares: [0; 8],
-        mapped: false,
-        shares2: [0; 8],
-        zero: false,
-    }
-}
-
-// Nothing read: SU is missing.
-fn unread() -> Front
-    ensures { (result.refusal ≡ 11) × (result.byte ≡ 0) }
-{
-    Front {
-        refusal: 11,
-        byte: 0,
-        setup: Params {
-            p: 0,
-            l: 0,
-            e: 0,
-            n: 0,
-        },
-        record: DealingRecord {
-            dealing: 0,
-            holder: 0,
-        },
-        zero: false,
-    }
-}
-
 // How many entries h has.
 fn column_len(s: Params, zero: bool) -> usize
     ensures { (result ≡ columns zero (setup_of s [])) × (result ≤ 131070) }
@@ -126,132 +74,109 @@ fn column_len(s: Params, zero: bool) -> usize
     if zero { e } else { (s.l as usize) + e }
 }
 
-// What is faulty in a DL, or in a DZ.
-fn part_fault(s: Params, t: &[u8], zero: bool) -> u16
-    ensures { result ≡ refusal (standing_rules (part_layout zero) (setup_of s []) t.now) }
+// Whether t starts with a mark.
+fn has_mark(t: &[u8], mark: u16) -> bool
+    ensures { result ≡ (not (ltb (length t.now) 2) && eqb (word_at t.now 0) mark) }
+{
+    2 <= t.len() && record_words::word(t, 0) == mark
+}
+
+// SU, which may be missing.
+#[tactic(auto, unfolding(crate::specs::File::setup_fault))]
+fn check_setup(file: &[u8]) -> Result<(), Refusal>
+    ensures { refused_by result ≡ setup_fault file.now }
+{
+    base::refuse_if(file.len() == 0, Refusal::Missing)?;
+    list_records::check_setup(file)
+}
+
+// A DL, or a DZ.
+fn check_part(s: Params, t: &[u8], zero: bool) -> Result<(), Refusal>
+    ensures { refused_by result ≡ refusal (standing_rules (part_layout zero) (setup_of s []) t.now) }
 {
     if zero {
-        return list_records::zero_fault(s, t);
+        return list_records::check_zero(s, t);
     }
-    list_records::dealing_fault(s, t)
+    list_records::check_dealing(s, t)
+}
+
+// What stands behind SU: DL or DZ, which may be missing.
+#[tactic(auto, unfolding(crate::specs::File::dealing_fault, crate::specs::File::has_zero))]
+fn check_first(s: Params, t: &[u8]) -> Result<(), Refusal>
+    ensures { refused_by result ≡ dealing_fault (setup_of s []) t.now }
+{
+    base::refuse_if(t.len() == 0, Refusal::Missing)?;
+    base::refuse_if(has_mark(t, record_layouts::MARK_SU), Refusal::Repeated)?;
+    check_part(s, t, has_mark(t, record_layouts::MARK_DZ))
 }
 
 // SU and DL or DZ, from the file's start.
-fn read_front(file: &[u8]) -> Front
+fn read_front(file: &[u8]) -> Result<Front, Fault>
     ensures { ReadsFront file.now result }
 {
-    let mut front = unread();
-    if file.len() == 0 {
-        return front;
+    if let Err(refusal) = check_setup(file) {
+        return Err(Fault { refusal, byte: 0 });
     }
-    let s = record_layouts::params_at(file);
-    front.setup = s;
-    front.refusal = list_records::setup_refusal(file);
-    if front.refusal != 0 {
-        return front;
-    }
-    let d = (s.l as usize) + (s.e as usize);
-    let at = SETUP_HEAD + 2 * ((s.n as usize) * d);
-    front.byte = at;
-    front.refusal = 11;
-    if file.len() <= at {
-        return front;
-    }
+    let setup = record_layouts::params_at(file);
+    let at = SETUP_HEAD + 2 * setup.matrix_len();
     let t = &file[at..];
-    let mark = record_words::word(t, 0);
+    if let Err(refusal) = check_first(setup, t) {
+        return Err(Fault { refusal, byte: at });
+    }
     let record = record_layouts::dealing_at(t);
-    front.record = record;
-    front.refusal = 3;
-    if t.len() < 2 {
-        return front;
-    }
-    front.refusal = 10;
-    if mark == record_layouts::MARK_SU {
-        return front;
-    }
-    let zero = mark == record_layouts::MARK_DZ;
-    front.zero = zero;
-    front.refusal = part_fault(s, t, zero);
-    if front.refusal != 0 {
-        return front;
-    }
-    front.byte = at + DEALING_HEAD + 2 * (d + column_len(s, zero));
-    front
+    let zero = has_mark(t, record_layouts::MARK_DZ);
+    let byte = at + DEALING_HEAD + 2 * (setup.dim() + column_len(setup, zero));
+    Ok(Front {
+        byte,
+        setup,
+        record,
+        zero,
+    })
 }
 
 // What is faulty in a DF behind a DL with the numbers x.
-fn second_fault(s: Params, x: DealingRecord, t: &[u8]) -> u16
-    ensures { result ≡ refusal (mapped_rules (setup_of s []) x t.now) }
+fn check_second(s: Params, x: DealingRecord, t: &[u8]) -> Result<(), Refusal>
+    ensures { refused_by result ≡ refusal (mapped_rules (setup_of s []) x t.now) }
 {
+    list_records::check_mapped_lists(s, t)?;
     let y = record_layouts::dealing_at(t);
-    let a = list_records::mapped_lists_fault(s, t);
-    let b = base::or_when(a, 5, y.holder != x.holder);
-    base::or_when(b, 9, y.dealing != x.dealing)
+    base::refuse_if(y.holder != x.holder, Refusal::Range)?;
+    base::refuse_if(y.dealing != x.dealing, Refusal::DealingNumber)
 }
 
 // A DF behind SU and DL, if there is one; behind a DZ it has no place.
-fn read_second(file: &[u8], front: Front) -> SecondFront
+fn read_second(file: &[u8], front: Front) -> Result<SecondFront, Fault>
     requires { FrontIn file.now front }
     ensures { ReadsMap file.now result }
 {
     let at = front.byte;
     let s = front.setup;
     let t = &file[at..];
-    let mark = record_words::word(t, 0);
-    let mut second = SecondFront {
-        refusal: 0,
-        byte: at,
-        mapped: false,
-    };
-    if front.zero {
-        return second;
+    if front.zero || !has_mark(t, record_layouts::MARK_DF) {
+        return Ok(SecondFront {
+            byte: at,
+            mapped: false,
+        });
     }
-    if t.len() < 2 {
-        return second;
+    if let Err(refusal) = check_second(s, front.record, t) {
+        return Err(Fault { refusal, byte: at });
     }
-    if mark != record_layouts::MARK_DF {
-        return second;
-    }
-    second.mapped = true;
-    let x = front.record;
-    second.refusal = second_fault(s, x, t);
-    if second.refusal != 0 {
-        return second;
-    }
-    second.byte = at + DEALING_HEAD + 4 * s.dim() + 2 * record_layouts::map_len(s);
-    second
+    Ok(SecondFront {
+        byte: at + DEALING_HEAD + 4 * s.dim() + 2 * record_layouts::map_len(s),
+        mapped: true,
+    })
 }
 
 // All records, to the file's end.
-fn read_parts(file: &[u8]) -> Parts
+fn read_parts(file: &[u8]) -> Result<Parts, Fault>
     requires { length file.now ≤ 4096 }
     ensures { ReadsParts file.now result }
 {
-    let front = read_front(file);
+    let front = read_front(file)?;
+    let second = read_second(file, front)?;
     let s = front.setup;
     let x = front.record;
-    let mut parts = Parts {
-        refusal: front.refusal,
-        byte: front.byte,
-        setup: s,
-        record: x,
-        mapped: false,
-        zero: front.zero,
-        values: [0; 32],
-        values2: [0; 32],
-        verdicts: [0; 32],
-    };
-    if front.refusal != 0 {
-        return parts;
-    }
-    let second = read_second(file, front);
     let from = second.byte;
-    parts.refusal = second.refusal;
-    parts.byte = from;
-    parts.mapped = second.mapped;
-    if second.refusal != 0 {
-        return parts;
-    }
     let head = Head {
         p: s.p,
         n: s.n,
@@ -260,16 +185,26 @@ fn read_parts(file: &[u8]) -> Parts
         mapped: second.mapped,
         zero: front.zero,
     };
-    let sent = file_records::read_received(&file[from..], head);
-    let values = sent.values;
-    let values2 = sent.values2;
-    let verdicts = sent.verdicts;
-    parts.refusal = sent.refusal;
-    parts.byte = from + sent.byte;
-    parts.values = values;
-    parts.values2 = values2;
-    parts.verdicts = verdicts;
-    parts
+    match file_records::read_received(&file[from..], head) {
+        Err(fault) => Err(Fault {
+            refusal: fault.refusal,
+            byte: from + fault.byte,
+        }),
+        Ok(sent) => {
+            let values = sent.values;
+            let values2 = sent.values2;
+            let verdicts = sent.verdicts;
+            Ok(Parts {
+                setup: s,
+                record: x,
+                mapped: second.mapped,
+                zero: front.zero,
+                values,
+                values2,
+                verdicts,
+            })
+        }
+    }
 }
 
 // The own judgement where there is no DF.
@@ -373,19 +308,11 @@ fn judge_parts(file: &[u8], parts: Parts) -> Own
 }
 
 // A file of at most 4,096 bytes, read to its end or to the first record that is refused; at its end the own verdict is held against the own judgement.
-pub fn read_file(file: &[u8]) -> Reading
+pub fn read_file(file: &[u8]) -> Result<Told, Fault>
     requires { length file.now ≤ 4096 }
     ensures { Tells (read_file file.now) result }
 {
-    let mut told = nothing();
-    let parts = read_parts(file);
-    if parts.refusal != 0 {
-        return Reading {
-            refusal: parts.refusal,
-            byte: parts.byte,
-            told,
-        };
-    }
+    let parts = read_parts(file)?;
     let s = parts.setup;
     let n = s.n as usize;
     let verdicts = parts.verdicts;
@@ -400,11 +327,10 @@ pub fn read_file(file: &[u8]) -> Reading
     let x = parts.record;
     let i = x.holder as usize;
     if verdicts[i] != own {
-        return Reading {
-            refusal: 13,
+        return Err(Fault {
+            refusal: Refusal::OwnVerdict,
             byte: file.len(),
-            told,
-        };
+        });
     }
     let mut shares = [0u16; 8];
     let mut shares2 = [0u16; 8];
@@ -415,7 +341,7 @@ pub fn read_file(file: &[u8]) -> Reading
         }
         Fate::Aborted(_) => {}
     }
-    told = Told {
+    Ok(Told {
         setup: s,
         dealing: x.dealing,
         holder: x.holder,
@@ -424,10 +350,5 @@ pub fn read_file(file: &[u8]) -> Reading
         mapped: parts.mapped,
         shares2,
         zero: parts.zero,
-    };
-    Reading {
-        refusal: 0,
-        byte: 0,
-        told,
-    }
+    })
 }

@@ -1,21 +1,27 @@
 -- Reading the records: what a record that passes says, how far the file was read, and the words at the places of the records.
 -- PairIs, VerdictIs: what stands where a PV or PF, or a VD, is due and passes
 use Prim.Native.Nat.{ℕ, zero, suc, ◌+◌, ◌-◌, ◌*◌, ◌<◌, ◌≤◌}
-use mathlib.Core.Bool.{Bool, true, false, not}
+use mathlib.Core.Bool.{Bool, true, false, not, false≢true}
 use mathlib.Core.List.{List, ◌++◌}
 use mathlib.Core.Path.{◌≡◌, refl, sym, ap, ◌∙◌}
 use native.Mathlib.Omega.{arith}
-use lib.ListN.{length, take, drop, length-append, length-drop}
-use lib.Seq.{take_all, take_at, length-take-le, get_or-take}
+use lib.ListN.{length, take, drop, length-append, length-drop, replicate, length-replicate}
+use lib.Seq.{take_all, take_at}
 use lib.Dec.{ltb, leb, eqb}
-use borrow.Author.Tests.{le-leb, lt-leb, lt-ltb, le-ltb, eq-eqb, ne_eqb, leb-true, leb-false, ltb-false, eqb-true, eqb-false, not-true, not-false}
+use borrow.Author.Tests.{le-leb, lt-leb, le-ltb, eq-eqb, ne_eqb, leb-true, leb-false, ltb-false, eqb-true, eqb-false, not-true, not-false}
+use Rattle.std.proofs.Common.{Result, Ok, Err}
+use Rattle.std.specs.Result.{is_err}
+use Rattle.base.specs.declared.Refusal.{Refusal}
+use Rattle.base.specs.Refusals.{refused_by}
+use Rattle.base.proofs.Refusals.{above_zero}
+use Rattle.base.specs.Rules.{or_when}
 use Rattle.base.specs.Choice.{pick}
 use Rattle.base.specs.Search.{First, found, missing, Vec, first}
-use Rattle.base.specs.Fill.{filled, tab}
+use Rattle.base.specs.Fill.{tab}
 use Rattle.base.proofs.Choice.{picked}
 use Rattle.base.proofs.Rules.{clear, never}
 use Rattle.base.proofs.Search.{first-is, first-le}
-use Rattle.base.proofs.Fill.{length-filled, get_d-filled, tab-is, tab-ext, tab-vec}
+use Rattle.base.proofs.Fill.{tab-ext, tab-vec}
 use Rattle.record_words.specs.Words.{word_at, words_at}
 use Rattle.record_words.proofs.Words.{length-words, word-behind}
 use Rattle.record_layouts.specs.Records.{mark_pv, mark_vd, mark_su, mark_dl, mark_df, mark_pf, mark_dz, pair_size, verdict_size, pair_at, verdict_at}
@@ -51,9 +57,13 @@ pairs-some h = go h.mapped refl
 
 -- RECORD k, which starts at byte a
 module _ (h : Head) (t : List ℕ) (k a : ℕ) (is : a ≡ place h k) where
-  pub record-missing : length t ≤ a → k < records h → 11 ≡ fault_at h t k
+  pub behind : length t ≤ a → or_when 0 11 (ltb k (records h)) ≡ fault_at h t k
   unfolding fault_at
-  record-missing l m = rw (le-leb (length t) (place h k) (omega (arith, is)), lt-ltb k (records h) m) refl
+  behind l = rw (le-leb (length t) (place h k) (omega (arith, is))) (go (ltb k (records h)))
+    where
+      go : (b : Bool) → or_when 0 11 b ≡ pick b 11 0
+      go true = refl
+      go false = refl
 
   pub none-due : length t ≤ a → records h ≤ k → 0 ≡ fault_at h t k
   unfolding fault_at
@@ -252,13 +262,12 @@ module _ (h : Head) (t : List ℕ) where
       go r (found l p q) = up r (omega arith) q
       go r (missing e q) = up r (omega (arith, e)) (λ j m. q j (omega (arith, e, m)))
 
--- WHAT THE HOLDERS SENT
--- the beginning of an array that is filled from the front
-pub begins : (n : ℕ) (f : ℕ → ℕ) (l : List ℕ) → n ≤ length l → take n (filled f n l) ≡ tab n f
-begins n f l h =
-    tab-is n f 0 (take n (filled f n l)) (length-take-le n _ (omega (arith, length-filled f n l)))
-    (λ k m. get_or-take n _ k 0 m ∙ get_d-filled f n l k 0 m (omega arith))
+-- a test that refuses gives a number above 0
+pub refused-some : (r : Result Unit Refusal) → is_err r ≡ true → refused_by r ≡ 0 → ⊥
+refused-some (Ok x) e z = absurd (false≢true e)
+refused-some (Err k) e z = above_zero k z
 
+-- WHAT THE HOLDERS SENT
 pub sent-are : (h : Head) (first : ℕ) (t : List ℕ) → first + h.n ≤ pair_records h → tab h.n (λ j. word_at t (5 * first + 4 + 5 * j)) ≡ sent_at h first t
 sent-are h first t inside =
     tab-ext h.n (λ j. word_at t (5 * first + 4 + 5 * j)) (λ j. (pair_at (drop (place h (first + j)) t)).value)
@@ -287,10 +296,11 @@ module _ (h : Head) (t : List ℕ) (all : (k : ℕ) → k < records h → fault_
   verdicts-small =
       tab-vec 2 h.n _ (λ j l. (verdict-stands h (pair_records h + j) t (omega arith) (omega arith) (all (pair_records h + j) (omega arith))).small)
 
--- words that a call has left at the front of an array
-pub front : (s : List ℕ) (i len : ℕ) (z e : List ℕ) → len ≤ length z → e ≡ words_at s i (length (take len z))
-    → (length (e ++ drop len z) ≡ length z) × (take len (e ++ drop len z) ≡ words_at s i len)
-front s i len z e l q =
-    let w = q ∙ ap (words_at s i) (length-take-le len z l) in
-    let n : length e ≡ len = ap length w ∙ length-words s i len in
-    (omega (arith, length-append e (drop len z), length-drop len z, n), take_at e (drop len z) len n ∙ w)
+-- words that stand at the front of an array of zeros
+pub front : (s : List ℕ) (i len size : ℕ) (r : List ℕ) → len ≤ size → r ≡ words_at s i len ++ drop len (replicate size 0)
+    → (length r ≡ size) × (take len r ≡ words_at s i len)
+front s i len size r l q =
+    let w : List ℕ = words_at s i len in
+    let z : List ℕ = replicate size 0 in
+    let n : length w ≡ len = length-words s i len in
+    (omega (arith, ap length q, length-append w (drop len z), length-drop len z, length-replicate {A = ℕ} size 0, n), rw q (take_at w (drop len z) len n))

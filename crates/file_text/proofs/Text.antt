@@ -5,9 +5,10 @@ use Prim.Native.Nat.{ℕ, zero, suc, ◌+◌, ◌-◌, ◌^◌, ◌≤◌, ◌<�
 use native.Mathlib.Nat.{add-zero, zero-add, add-suc, suc-add, le_trans, pow-le-pow_right}
 use native.Mathlib.Numerals.{add-one}
 use native.Mathlib.Omega.{arith}
+use Rattle.std.proofs.lemmas.List.{append_assoc}
 use lib.Dec.{lit<, lit≤}
-use lib.ListN.{length, get_or, drop, set, length-append, drop_of_length-le}
-use lib.Seq.{sets, sets-eq, length-sets, drop-cons, take_at, drop_at}
+use lib.ListN.{length, get_or, take, drop, set, length-append, drop_of_length-le}
+use lib.Seq.{sets, sets-eq, length-sets, drop-cons, drop-drop, take_at, drop_at}
 use borrow.Author.Tests.{lt-ltb, le-ltb}
 use Rattle.file_text.specs.Text.{Wrote, Printed}
 use Rattle.file_text.specs.Lines.{width, column_line, column_lines}
@@ -15,6 +16,12 @@ use Rattle.file_text.specs.Lines.{width, column_line, column_lines}
 sets-append : (l : List ℕ) (i : ℕ) (a b : List ℕ) → sets (sets l i a) (i + length a) b ≡ sets l i (a ++ b)
 sets-append l i [] b = rw add-zero
 sets-append l i (x ∷ a) b = rw (add-suc, ← suc-add) (sets-append (set l i x) (suc i) a b)
+
+-- a part that a text is copied to
+pub put-part : (l t u : List ℕ) (at : ℕ) → at + length t ≤ length l → u ≡ t → take at l ++ (u ++ drop (at + length t - at) (drop at l)) ≡ sets l at t
+put-part l t u at fits e =
+    let s : at + length t - at ≡ length t = omega arith in
+    rw (e, s, drop-drop (length t) at l) (sym (append_assoc (take at l) t (drop (at + length t) l)) ∙ sym (sets-eq t l at fits))
 
 -- what is written after a text, as written with it
 pub after : {l m t : List ℕ} {at room r : ℕ} → Wrote l at t room m r → (u : List ℕ) → sets m r u ≡ sets l at (t ++ u)

@@ -13,14 +13,9 @@ fn put_text(out: &mut [u8], at: usize, t: &[u8]) -> usize
     requires { at + length t.now ≤ length out.old }
     ensures { Wrote out.old at t.now (length t.now) out.new result }
 {
-    let mut i = 0;
-    let mut k = at;
-    while i < t.len() {
-        out[k] = t[i];
-        k += 1;
-        i += 1;
-    }
-    k
+    let end = at + t.len();
+    out[at..end].copy_from_slice(t);
+    end
 }
 
 fn put_number(out: &mut [u8], at: usize, x: u16) -> usize
@@ -28,7 +23,7 @@ fn put_number(out: &mut [u8], at: usize, x: u16) -> usize
     ensures { Wrote out.old at (dec x) 5 out.new result }
 {
     let mut d = [0u8; 20];
-    let k = io::decimal(x as u64, &mut d);
+    let k = io::decimal(u64::from(x), &mut d);
     put_text(out, at, &d[..k])
 }
 
@@ -95,12 +90,9 @@ fn column_lines(out: &mut [u8], at: usize, word: &[u8], values: &[u16]) -> usize
     requires { (length values.now ≤ 8) × (at + 8 * (length word.now + 12) ≤ length out.old) }
     ensures { Wrote out.old at (column_lines word.now 0 values.now) (8 * (length word.now + 12)) out.new result }
 {
-    let n = values.len();
-    let mut column = 0;
     let mut k = at;
-    while column < n {
-        k = put_line(out, k, word, column as u16, b" ", values[column]);
-        column += 1;
+    for (column, value) in values.iter().enumerate() {
+        k = put_line(out, k, word, column as u16, b" ", *value);
     }
     k
 }
@@ -133,13 +125,11 @@ pub fn print_told(
     requires { (length shares.now ≤ 8) × (length mapped.now ≤ 8) × (512 ≤ length out.old) }
     ensures { Printed out.old (printed (setup_of s []) dealing holder outcome.judgement outcome.fate shares.now mapped.now) out.new result }
 {
-    let judgement = outcome.judgement;
-    let fate = outcome.fate;
     let a = setup_line(out, 0, s);
     let b = put_line(out, a, b"dealing ", dealing, b" holder ", holder);
-    let c = verdict_line(out, b, judgement);
-    let d = outcome_line(out, c, fate);
-    kept_lines(out, d, fate, shares, mapped)
+    let c = verdict_line(out, b, outcome.judgement);
+    let d = outcome_line(out, c, outcome.fate);
+    kept_lines(out, d, outcome.fate, shares, mapped)
 }
 
 // What is printed of a refused file.

@@ -1,53 +1,37 @@
 // Many holder's files from standard input, each behind its length of two bytes, and what is printed for each.
 #![tactic(auto)]
 
-ghost use Rattle.std.specs.Prelude.{◌≤◌, length};
+ghost use Rattle.std.specs.Prelude.{◌≤◌, length, IfSome};
 
-const STDIN_FILENO: i32 = 0;
-
-const STDOUT_FILENO: i32 = 1;
+use std::io::{self, Read};
 
 // Prints a file.
-fn print(file: &[u8])
+fn print(rt: &impl Print, file: &[u8]) -> io::Result<()>
     requires { length file.now ≤ 4096 }
 {
     let mut text = [0u8; 512];
     let count = holder_file::print_file(file, &mut text);
-    io::write_all(STDOUT_FILENO, &text[..count]);
+    rt.write_all(&text[..count])
 }
 
-// Reads len bytes; false where there are fewer.
-fn read(file: &mut [u8], len: usize) -> bool {
-    if file.len() < len {
-        return false;
-    }
-    io::read_full(STDIN_FILENO, &mut file[..len]) == len
-}
-
-// The next file; false where there is none.
-fn next() -> bool {
+// The length of the next file, which is read to the front of the buffer; none where there is no whole file more, or the buffer does not hold it.
+fn next<R: Read>(source: &mut R, buffer: &mut [u8]) -> Option<usize>
+    ensures { IfSome result (λ len. len ≤ length buffer.new) }
+{
     let mut size = [0u8; 2];
-    if !read(&mut size, 2) {
-        return false;
-    }
-    let len = record_words::word(&size, 0) as usize;
-    let mut file = [0u8; 4096];
-    if 4096 < len {
-        return false;
-    }
-    if !read(&mut file, len) {
-        return false;
-    }
-    print(&file[..len]);
-    true
+    source.read_exact(&mut size).ok()?;
+    let len = usize::from(u16::from_le_bytes(size));
+    source.read_exact(buffer.get_mut(..len)?).ok()?;
+    Some(len)
 }
 
-fn main() {
-    let mut i = 0usize;
-    while i < 10000 {
-        if !next() {
-            return;
-        }
-        i += 1;
+fn main(rt: HostRuntime) -> io::Result<()> {
+    let mut file = [0u8; 4096];
+    for _ in 0..10_000 {
+        let Some(len) = next(&mut rt.stdin(), &mut file) else {
+            break;
+        };
+        print(&rt, &file[..len])?;
     }
+    Ok(())
 }

@@ -20,12 +20,13 @@ use Rattle.scheme.proofs.Calls.{size_is}
 use Rattle.scheme.specs.Dealing.{is_kept, said_reject, fate_of}
 use Rattle.file_text.specs.Text.{Printed}
 use Rattle.file_text.specs.Lines.{setup_line, dealing_line, verdict_line, outcome_line, kept_lines, printed}
-use Rattle.file_reading.specs.declared.Reading.{Reading}
+use Rattle.base.specs.Refusals.{number}
+use Rattle.file_records.specs.declared.Fault.{Fault}
 use Rattle.file_reading.specs.declared.Told.{Told}
 use Rattle.file_reading.specs.Contents.{Contents, is_mapped, shares_of, judgement, fate}
-use Rattle.file_reading.specs.File.{FileRead, refused_at, whole, read_file, number_of, byte_of, told, eight}
-use Rattle.file_reading.specs.Inner.{Tells}
-use Rattle.file_reading.proofs.Whole.{HasContents, file-some, file-inside, whole-is-setup, whole_row, whole-mapped}
+use Rattle.file_reading.specs.File.{FileRead, refused_at, whole, read_file, byte_of, told, eight}
+use Rattle.file_reading.specs.Inner.{Refuses, TellsWhole}
+use Rattle.file_reading.proofs.Whole.{file-inside, whole-is-setup, whole_row, whole-mapped}
 use Rattle.holder_file.specs.Text.{text_of, line_of}
 use Rattle.holder_file.specs.Calls.{at_byte, file_answer, file_left, lent_file, judged, settled, kind_number, numbers}
 
@@ -83,10 +84,6 @@ pub lent-means : (s out : List ℕ) (n : ℕ) → refusal (lent_file s out n) �
 lent-means s out n z = let q = clear (lent_file s out n) tt z in (ltb-false 4096 (length s) q.0, size_is (length out) n q.1.0)
 
 -- A REFUSED FILE
-refused-is : (x : FileRead) (k byte : ℕ) → k ≡ number_of x → byte ≡ byte_of x → (k ≡ 0 → ⊥) → x ≡ refused_at k byte
-refused-is (refused_at j b) k byte e f n = rw (e, f) refl
-refused-is (whole C) k byte e f n = absurd (n e)
-
 refused-answer : (values : Contents → List ℕ) (x : FileRead) (k byte : ℕ) → x ≡ refused_at k byte → at_byte k byte ≡ file_answer values x
 refused-answer values x k byte e = rw e refl
 
@@ -111,14 +108,14 @@ module _ (s out : List ℕ) (n : ℕ) (values new : Contents → List ℕ) where
       let R = refusal (lent_file s out n) in
       (ap refused e ∙ declined R (file_answer values (read_file s)) (λ z. some (e ∙ z)), unchanged R (file_left new (read_file s) out) out (λ z. some (e ∙ z)))
 
-  pub file-declined : (r : Reading) → refusal (lent_file s out n) ≡ 0 → Tells (read_file s) r → (r.refusal ≡ 0 → ⊥)
-      → (at_byte r.refusal r.byte ≡ answer_by (refusal (lent_file s out n)) (file_answer values (read_file s)))
+  pub file-declined : (f : Fault) → 0 ≡ refusal (lent_file s out n) → Refuses (read_file s) f
+      → (at_byte (number f.refusal) f.byte ≡ answer_by (refusal (lent_file s out n)) (file_answer values (read_file s)))
       × (out ≡ left_by (refusal (lent_file s out n)) (file_left new (read_file s) out) out)
-  file-declined r z w some =
+  file-declined f z w =
       let R = refusal (lent_file s out n) in
-      let f = refused-is (read_file s) r.refusal r.byte w.number w.byte some in (
-        refused-answer values (read_file s) r.refusal r.byte f ∙ accepted R (file_answer values (read_file s)) z,
-        written R (file_left new (read_file s) out) out out z (refused-left new (read_file s) r.refusal r.byte out f),
+      let k = number f.refusal in (
+        refused-answer values (read_file s) k f.byte (sym w) ∙ accepted R (file_answer values (read_file s)) (sym z),
+        written R (file_left new (read_file s) out) out out (sym z) (refused-left new (read_file s) k f.byte out (sym w)),
       )
 
 -- only what is lent is refused with no byte
@@ -153,13 +150,7 @@ pub whole-left : (new : Contents → List ℕ) (x : FileRead) (C : Contents) (ol
 whole-left new x C old e = rw e refl
 
 -- A FILE THAT WAS READ TO ITS END
-module _ (s : List ℕ) (r : Reading) (w : Tells (read_file s) r) (z : r.refusal ≡ 0) where
-  pub contents : HasContents (read_file s)
-  contents = file-some s (sym w.number ∙ z)
-
-  pub told_is : r.told ≡ told contents.contents
-  told_is = w.contents contents.contents contents.is
-
+module _ (s : List ℕ) (t : Told) (contents : TellsWhole (read_file s) t) where
   pub secrets-few : contents.contents.setup.l ≤ 8
   secrets-few = (whole-is-setup s contents.contents contents.is).limits.secret.1
 
@@ -169,17 +160,17 @@ module _ (s : List ℕ) (r : Reading) (w : Tells (read_file s) r) (z : r.refusal
   second-in : let C = contents.contents in length (shares_of C.setup C.kind) ≡ pick (is_mapped C.kind) C.setup.l 0
   second-in = whole-mapped s contents.contents contents.is
 
-  pub told_text : let t = r.told in
+  pub told_text :
       printed (setup_of t.setup []) t.dealing t.holder t.outcome.judgement t.outcome.fate (take t.setup.l t.shares)
       (take (pick t.mapped t.setup.l 0) t.shares2)
       ≡ text_of contents.contents
   told_text =
       ap (λ (u : Told). printed (setup_of u.setup []) u.dealing u.holder u.outcome.judgement u.outcome.fate (take u.setup.l u.shares)
-      (take (pick u.mapped u.setup.l 0) u.shares2)) told_is
+      (take (pick u.mapped u.setup.l 0) u.shares2)) contents.same
       ∙ text-told contents.contents secrets-few secrets-in second-in
 
-  pub told-fits : (r.told.setup.l ≤ 8) × ((length r.told.shares ≡ 8) × (length r.told.shares2 ≡ 8))
-  told-fits = rw told_is (secrets-few, told-eight contents.contents secrets-few secrets-in second-in)
+  pub told-fits : (t.setup.l ≤ 8) × ((length t.shares ≡ 8) × (length t.shares2 ≡ 8))
+  told-fits = rw contents.same (secrets-few, told-eight contents.contents secrets-few secrets-in second-in)
 
 -- THE NUMBERS
 -- a list of eight entries, entry by entry

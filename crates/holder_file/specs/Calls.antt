@@ -7,7 +7,7 @@
 -- kind_number: 2 for a zero dealing's file, 1 for one with a DF, 0 for one without
 -- numbers: what a file tells, as 27 numbers: p, ℓ, e, n, dealing number, holder, verdict, outcome, eight shares, its kind, eight shares of the second dealing
 -- fileContentsRules, file_contents_call, file_contents_left: those numbers into a lent buffer
-use Rattle.std.specs.Prelude.{Bool, false, not, List, [], ◌∷◌, ◌++◌, ℕ, eqb, ltb, length, drop}
+use Rattle.std.specs.Prelude.{Bool, false, not, List, [], ◌∷◌, ◌++◌, ℕ, Result, Ok, Err, eqb, ltb, length, drop}
 use Rattle.base.specs.Choice.{pick}
 use Rattle.base.specs.Rules.{Rule, ◌when◌, refusal, Answer, refused, given, answer_by, left_by}
 use Rattle.scheme.specs.declared.Judgement.{Judgement}
@@ -17,10 +17,9 @@ use Rattle.scheme.specs.declared.Fate.TheVariants.{Kept, Aborted}
 use Rattle.file_reading.specs.declared.Told.{Told}
 use Rattle.file_reading.specs.Contents.{Contents}
 use Rattle.file_reading.specs.File.{FileRead, refused_at, whole, read_file, told}
-use Rattle.holder_file.specs.declared.Printing.{Printing}
-use Rattle.holder_file.specs.declared.Printing.TheVariants as printing
-use Rattle.holder_file.specs.declared.FileGiven.{FileGiven}
-use Rattle.holder_file.specs.declared.FileGiven.TheVariants as fileGiven
+use Rattle.holder_file.specs.declared.FileRefusal.{FileRefusal}
+use Rattle.holder_file.specs.declared.FileRefusal.TheVariants.{At, Lent}
+use Rattle.base.specs.Refusals.{number}
 use Rattle.holder_file.specs.Text.{text_of}
 
 abbrev pub at_byte : ℕ → ℕ → Answer
@@ -45,10 +44,10 @@ holder_file_call s out = answer_by (refusal (lent_file s out 512)) (file_answer 
 abbrev pub holder_file_left : List ℕ → List ℕ → List ℕ
 holder_file_left s out = left_by (refusal (lent_file s out 512)) (file_left (λ C. text_of C ++ drop (length (text_of C)) out) (read_file s) out) out
 
-abbrev pub paper_printing : Printing → Answer
-paper_printing (printing.Bytes n) = given (n ∷ [])
-paper_printing (printing.RefusedAt k byte) = at_byte k byte
-paper_printing (printing.Refused k) = refused k
+abbrev pub paper_printing : Result ℕ FileRefusal → Answer
+paper_printing (Ok n) = given (n ∷ [])
+paper_printing (Err (At k byte)) = at_byte (number k) byte
+paper_printing (Err (Lent k)) = refused (number k)
 
 -- THE CONTENTS
 abbrev pub judged : Judgement → List ℕ
@@ -74,7 +73,7 @@ file_contents_call s out = answer_by (refusal (lent_file s out 27)) (file_answer
 abbrev pub file_contents_left : List ℕ → List ℕ → List ℕ
 file_contents_left s out = left_by (refusal (lent_file s out 27)) (file_left (λ C. numbers (told C)) (read_file s) out) out
 
-abbrev pub paper_given : FileGiven → Answer
-paper_given fileGiven.Given = given []
-paper_given (fileGiven.RefusedAt k byte) = at_byte k byte
-paper_given (fileGiven.Refused k) = refused k
+abbrev pub paper_given : {A : Type 0} → Result A FileRefusal → Answer
+paper_given (Ok x) = given []
+paper_given (Err (At k byte)) = at_byte (number k) byte
+paper_given (Err (Lent k)) = refused (number k)

@@ -3,38 +3,50 @@
 
 ghost use Rattle.std.specs.Prelude.{◌≡◌, List, [], ◌∷◌, ℕ, ◌≤◌, length};
 ghost use Rattle.base.specs.Rules.{refusal};
+ghost use Rattle.base.specs.Refusals.{refused_by};
 ghost use Rattle.file_text.specs.Text.{Printed};
 ghost use Rattle.holder_file.specs.Text.{file_text};
 ghost use Rattle.base.specs.Choice.{pick};
 ghost use Rattle.holder_file.specs.Calls.{lent_file, holder_file_call, holder_file_left, paper_printing, judged, settled, kind_number, numbers, file_contents_call, file_contents_left, paper_given};
 
+use base::Refusal;
 use file_reading::Told;
+use file_records::Fault;
 use scheme::{Fate, Judgement};
 
-// How many bytes were printed, or the refusal: of the file at a byte, or of what was lent.
+// Why a file gives nothing: a fault at a byte of it, or what was lent.
 #[derive(Clone, Copy)]
-pub enum Printing {
-    Bytes(usize),
-    RefusedAt(u16, usize),
-    Refused(u16),
+pub enum FileRefusal {
+    At(Refusal, usize),
+    Lent(Refusal),
 }
 
-// Whether the contents were given.
-#[derive(Clone, Copy)]
-pub enum FileGiven {
-    Given,
-    RefusedAt(u16, usize),
-    Refused(u16),
+impl From<Fault> for FileRefusal {
+    ghost use Rattle.holder_file.specs.declared.FileRefusal.TheVariants.{At};
+
+    ghost from_gives = { λ fault e. e ≡ At fault.refusal fault.byte };
+
+    fn from(fault: Fault) -> FileRefusal {
+        FileRefusal::At(fault.refusal, fault.byte)
+    }
+}
+
+impl From<Refusal> for FileRefusal {
+    ghost use Rattle.holder_file.specs.declared.FileRefusal.TheVariants.{Lent};
+
+    ghost from_gives = { λ refusal e. e ≡ Lent refusal };
+
+    fn from(refusal: Refusal) -> FileRefusal {
+        FileRefusal::Lent(refusal)
+    }
 }
 
 // What refuses a lent file, or a lent buffer of `room` entries.
-fn lent_refusal(file: &[u8], room: usize, needed: usize) -> u16
-    ensures { (out : List ℕ) → room ≡ length out → result ≡ refusal (lent_file file.now out needed) }
+fn check_lent(file: &[u8], room: usize, needed: usize) -> Result<(), Refusal>
+    ensures { (out : List ℕ) → room ≡ length out → refused_by result ≡ refusal (lent_file file.now out needed) }
 {
-    if 4096 < file.len() {
-        return 3;
-    }
-    if room != needed { 3 } else { 0 }
+    base::refuse_if(4096 < file.len(), Refusal::Length)?;
+    base::refuse_if(room != needed, Refusal::Length)
 }
 
 // How many lines the second dealing has.
@@ -47,20 +59,12 @@ fn mapped_lines(t: Told) -> usize
 }
 
 // Prints a holder's file of at most 4,096 bytes into a lent buffer of 512.
-pub fn holder_file(file: &[u8], out: &mut [u8]) -> Printing
+pub fn holder_file(file: &[u8], out: &mut [u8]) -> Result<usize, FileRefusal>
     ensures answer { paper_printing result ≡ holder_file_call file.now out.old }
     ensures buffer { out.new ≡ holder_file_left file.now out.old }
 {
-    let refusal = lent_refusal(file, out.len(), 512);
-    if refusal != 0 {
-        return Printing::Refused(refusal);
-    }
-    let r = file_reading::read_file(file);
-    let k = r.refusal;
-    if k != 0 {
-        return Printing::RefusedAt(k, r.byte);
-    }
-    let t = r.told;
+    check_lent(file, out.len(), 512)?;
+    let t = file_reading::read_file(file)?;
     let s = t.setup;
     let outcome = t.outcome;
     let shares = t.shares;
@@ -76,7 +80,7 @@ pub fn holder_file(file: &[u8], out: &mut [u8]) -> Printing
         &shares2[..m],
         out,
     );
-    Printing::Bytes(count)
+    Ok(count)
 }
 
 // What the holder program prints of a file: its text, or the line of its refusal.
@@ -85,9 +89,11 @@ pub fn print_file(file: &[u8], out: &mut [u8]) -> usize
     ensures { Printed out.old (file_text file.now) out.new result }
 {
     match holder_file(file, out) {
-        Printing::Bytes(n) => n,
-        Printing::RefusedAt(k, byte) => file_text::print_refusal(k, byte as u16, out),
-        Printing::Refused(k) => file_text::print_refusal(k, 0, out),
+        Ok(n) => n,
+        Err(FileRefusal::At(refusal, byte)) => {
+            file_text::print_refusal(refusal.number(), byte as u16, out)
+        }
+        Err(FileRefusal::Lent(refusal)) => file_text::print_refusal(refusal.number(), 0, out),
     }
 }
 
@@ -151,21 +157,13 @@ fn tell_numbers(t: Told) -> [u16; 27]
 }
 
 // The contents of a holder's file of at most 4,096 bytes, as 27 numbers into a lent buffer.
-pub fn file_contents(file: &[u8], contents: &mut [u16]) -> FileGiven
+pub fn file_contents(file: &[u8], contents: &mut [u16]) -> Result<(), FileRefusal>
     ensures answer { paper_given result ≡ file_contents_call file.now contents.old }
     ensures buffer { contents.new ≡ file_contents_left file.now contents.old }
 {
-    let refusal = lent_refusal(file, contents.len(), 27);
-    if refusal != 0 {
-        return FileGiven::Refused(refusal);
-    }
-    let r = file_reading::read_file(file);
-    let k = r.refusal;
-    if k != 0 {
-        return FileGiven::RefusedAt(k, r.byte);
-    }
-    let told = r.told;
+    check_lent(file, contents.len(), 27)?;
+    let told = file_reading::read_file(file)?;
     let all = tell_numbers(told);
     base::copy(contents, 0, &all, 0, 27);
-    FileGiven::Given
+    Ok(())
 }

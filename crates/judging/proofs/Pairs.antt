@@ -4,8 +4,7 @@ use mathlib.Core.Path.{◌≡◌, refl, sym, ap, ◌∙◌}
 use mathlib.Core.Bool.{Bool, not}
 use mathlib.Core.List.{List}
 use Prim.Native.Nat.{ℕ, ◌+◌, ◌-◌, ◌*◌, ◌<◌, ◌≤◌}
-use native.Mathlib.Nat.{add_assoc, suc-mul, le_antisymm, add-zero, sub-zero}
-use native.Mathlib.Numerals.{add-one}
+use native.Mathlib.Nat.{add_assoc, le_antisymm, sub-zero}
 use native.Mathlib.Omega.{arith}
 use lib.Arith.{digits_lt, digits_div, digits_mod}
 use borrow.Author.Tests.{eq-eqb, ne_eqb, lt-ltb, le-ltb}
@@ -34,12 +33,6 @@ module _ (S : Setup) (gs hs : List ℕ) where
   pub pairs-begin : Ahead S gs hs (0 * S.n)
   unfolding first
   pairs-begin = moved 0 (0 * S.n) (omega arith) (record { same = rw sub-zero })
-
-  pub row-begin : (i : ℕ) → Ahead S gs hs (i * S.n) → Ahead S gs hs (i * S.n + 0)
-  row-begin i = moved _ _ (sym (add-zero (i * S.n)))
-
-  pub row-end : (i j : ℕ) → j ≤ S.n → S.n ≤ j → Ahead S gs hs (i * S.n + j) → Ahead S gs hs ((i + 1) * S.n)
-  row-end i j h l = moved _ _ (rw (add-one i, suc-mul, le_antisymm h l) refl)
 
   module _ (i j : ℕ) (hi : i < S.n) (hj : j < S.n) where
     pub pair-agrees : pair_value S (part S gs j) i ≡ expected S (part S hs i) j → Ahead S gs hs (i * S.n + j) → Ahead S gs hs (i * S.n + (j + 1))

@@ -3,16 +3,18 @@
 #![tactic(auto)]
 
 ghost use Rattle.std.specs.Prelude.{◌≡◌, [], ◌∷◌, ◌+◌, ◌*◌, ◌%◌, ◌<◌, ◌≤◌, length};
-ghost use Rattle.base.specs.Rules.{refusal, refusal_from};
+ghost use Rattle.base.specs.Rules.{refusal};
+ghost use Rattle.base.specs.Refusals.{refused_by};
 ghost use Rattle.base.specs.Search.{first};
 ghost use Rattle.base.specs.Matrix.{entry};
 ghost use Rattle.field.specs.Dot.{dot};
 ghost use Rattle.scheme.specs.Setup.{setup_of};
-ghost use Rattle.scheme.specs.Answers.{paper_value, paper_judged, paper_rehearsal};
+ghost use Rattle.scheme.specs.Answers.{paper_value, paper_judged, paper_rehearsed, paper_rehearsal};
 ghost use Rattle.scheme.specs.Dealing.{differs, judgement_of, rehearse};
 ghost use Rattle.scheme.specs.Calls.{size, beyond_field, pair_value_rules, pair_value_call, judge_rules, judge_call, rehearse_rules, rehearse_call};
 
-use scheme::{Judged, Judgement, Params, Rehearsal, Value};
+use base::Refusal;
+use scheme::{Judgement, Params, Rehearsal};
 
 // The product of row i of u and row j of v, both with d columns.
 pub fn rows_product(p: u16, d: usize, u: &[u16], i: usize, v: &[u16], j: usize) -> u16
@@ -23,52 +25,49 @@ pub fn rows_product(p: u16, d: usize, u: &[u16], i: usize, v: &[u16], j: usize) 
 }
 
 // PAIR VALUE
-fn pair_value_refusal(s: Params, matrix: &[u16], g: &[u16], to: u16) -> u16
-    ensures { result ≡ refusal (pair_value_rules (setup_of s matrix.now) g.now to) }
+fn check_pair_value(s: Params, matrix: &[u16], g: &[u16], to: u16) -> Result<(), Refusal>
+    ensures { refused_by result ≡ refusal (pair_value_rules (setup_of s matrix.now) g.now to) }
 {
-    let a = scheme::limits_and_matrix(s, matrix.len());
-    let b = scheme::or_size(a, g.len(), s.dim());
-    let c = scheme::or_elements(b, s.p, matrix);
-    let d = scheme::or_elements(c, s.p, g);
-    base::or_when(d, 5, s.n <= to)
+    scheme::check_matrix_len(s, matrix.len())?;
+    scheme::check_size(g.len(), s.dim())?;
+    scheme::check_elements(s.p, matrix)?;
+    scheme::check_elements(s.p, g)?;
+    base::refuse_if(s.n <= to, Refusal::Range)
 }
 
 // The pair value, for holder `to`, of the holder whose row part is g.
-pub fn pair_value(s: Params, matrix: &[u16], g: &[u16], to: u16) -> Value
+pub fn pair_value(s: Params, matrix: &[u16], g: &[u16], to: u16) -> Result<u16, Refusal>
     ensures { paper_value result ≡ pair_value_call (setup_of s matrix.now) g.now to }
 {
-    let refusal = pair_value_refusal(s, matrix, g, to);
-    if refusal != 0 {
-        return Value::Refused(refusal);
-    }
+    check_pair_value(s, matrix, g, to)?;
     let value = rows_product(s.p, s.dim(), g, 0, matrix, to as usize);
-    Value::Is(value)
+    Ok(value)
 }
 
 // JUDGE
 // Refusal 3 of a column part and the values received.
-pub fn or_received_sizes(standing: u16, s: Params, h: &[u16], values: &[u16]) -> u16
-    ensures { result ≡ refusal_from standing (size (length h.now) (s.l + s.e) ∷ size (length values.now) s.n ∷ []) }
+pub fn check_received_sizes(s: Params, h: &[u16], values: &[u16]) -> Result<(), Refusal>
+    ensures { refused_by result ≡ refusal (size (length h.now) (s.l + s.e) ∷ size (length values.now) s.n ∷ []) }
 {
-    let a = scheme::or_size(standing, h.len(), s.dim());
-    scheme::or_size(a, values.len(), s.n as usize)
+    scheme::check_size(h.len(), s.dim())?;
+    scheme::check_size(values.len(), s.n as usize)
 }
 
 // Refusal 4 of the same.
-pub fn or_received_elements(standing: u16, p: u16, h: &[u16], values: &[u16]) -> u16
-    ensures { result ≡ refusal_from standing (beyond_field p h.now ∷ beyond_field p values.now ∷ []) }
+pub fn check_received_elements(p: u16, h: &[u16], values: &[u16]) -> Result<(), Refusal>
+    ensures { refused_by result ≡ refusal (beyond_field p h.now ∷ beyond_field p values.now ∷ []) }
 {
-    let a = scheme::or_elements(standing, p, h);
-    scheme::or_elements(a, p, values)
+    scheme::check_elements(p, h)?;
+    scheme::check_elements(p, values)
 }
 
-fn judge_refusal(s: Params, matrix: &[u16], h: &[u16], values: &[u16]) -> u16
-    ensures { result ≡ refusal (judge_rules (setup_of s matrix.now) h.now values.now) }
+fn check_judge(s: Params, matrix: &[u16], h: &[u16], values: &[u16]) -> Result<(), Refusal>
+    ensures { refused_by result ≡ refusal (judge_rules (setup_of s matrix.now) h.now values.now) }
 {
-    let a = scheme::limits_and_matrix(s, matrix.len());
-    let b = or_received_sizes(a, s, h, values);
-    let c = scheme::or_elements(b, s.p, matrix);
-    or_received_elements(c, s.p, h, values)
+    scheme::check_matrix_len(s, matrix.len())?;
+    check_received_sizes(s, h, values)?;
+    scheme::check_elements(s.p, matrix)?;
+    check_received_elements(s.p, h, values)
 }
 
 // The lowest holder whose value differs from what is due, or n where none does.
@@ -76,17 +75,14 @@ pub fn lowest_that_differs(s: Params, matrix: &[u16], h: &[u16], values: &[u16])
     requires { refusal (judge_rules (setup_of s matrix.now) h.now values.now) ≡ 0 }
     ensures { result ≡ first (differs (setup_of s matrix.now) h.now values.now) s.n }
 {
-    let n = s.n;
     let d = s.dim();
-    let mut j: u16 = 0;
-    while j < n {
+    for j in 0..s.n {
         let due = rows_product(s.p, d, matrix, j as usize, h, 0);
         if values[j as usize] != due {
             return j;
         }
-        j += 1;
     }
-    j
+    s.n
 }
 
 // A holder's judgement of the n values it received, on its column part h, from inputs that are in order.
@@ -103,63 +99,51 @@ pub fn judgement(s: Params, matrix: &[u16], h: &[u16], values: &[u16]) -> Judgem
 }
 
 // That judgement, or what refuses the inputs.
-pub fn judge(s: Params, matrix: &[u16], h: &[u16], values: &[u16]) -> Judged
+pub fn judge(s: Params, matrix: &[u16], h: &[u16], values: &[u16]) -> Result<Judgement, Refusal>
     ensures { paper_judged result ≡ judge_call (setup_of s matrix.now) h.now values.now }
 {
-    let refusal = judge_refusal(s, matrix, h, values);
-    if refusal != 0 {
-        return Judged::Refused(refusal);
-    }
-    Judged::As(judgement(s, matrix, h, values))
+    check_judge(s, matrix, h, values)?;
+    Ok(judgement(s, matrix, h, values))
 }
 
 // REHEARSE
-fn rehearse_refusal(s: Params, matrix: &[u16], gs: &[u16], hs: &[u16]) -> u16
-    ensures { result ≡ refusal (rehearse_rules (setup_of s matrix.now) gs.now hs.now) }
+fn check_rehearse(s: Params, matrix: &[u16], gs: &[u16], hs: &[u16]) -> Result<(), Refusal>
+    ensures { refused_by result ≡ refusal (rehearse_rules (setup_of s matrix.now) gs.now hs.now) }
 {
     let len = s.matrix_len();
-    let a = scheme::limits_and_matrix(s, matrix.len());
-    let b = scheme::or_size(a, gs.len(), len);
-    let c = scheme::or_size(b, hs.len(), len);
-    let d = scheme::or_elements(c, s.p, matrix);
-    let e = scheme::or_elements(d, s.p, gs);
-    scheme::or_elements(e, s.p, hs)
+    scheme::check_matrix_len(s, matrix.len())?;
+    scheme::check_size(gs.len(), len)?;
+    scheme::check_size(hs.len(), len)?;
+    scheme::check_elements(s.p, matrix)?;
+    scheme::check_elements(s.p, gs)?;
+    scheme::check_elements(s.p, hs)
 }
 
 // The first pair (i, j), by i and then by j, at which what j sends to i and what is due differ; own pairs too.
 fn first_pair(s: Params, matrix: &[u16], gs: &[u16], hs: &[u16]) -> Rehearsal
     requires { refusal (rehearse_rules (setup_of s matrix.now) gs.now hs.now) ≡ 0 }
-    ensures { paper_rehearsal result ≡ rehearse (setup_of s matrix.now) gs.now hs.now }
+    ensures { paper_rehearsed result ≡ rehearse (setup_of s matrix.now) gs.now hs.now }
 {
     let n = s.n;
     let d = s.dim();
-    let mut i: u16 = 0;
-    let mut j: u16 = 0;
-    'holders: while i < n {
-        j = 0;
-        while j < n {
+    let mut answer = Rehearsal::Fair;
+    'holders: for i in 0..n {
+        for j in 0..n {
             let sent = rows_product(s.p, d, gs, j as usize, matrix, i as usize);
             let due = rows_product(s.p, d, matrix, j as usize, hs, i as usize);
             if sent != due {
+                answer = Rehearsal::Disagree(i, j);
                 break 'holders;
             }
-            j += 1;
         }
-        i += 1;
     }
-    if i < n {
-        return Rehearsal::Disagree(i, j);
-    }
-    Rehearsal::Fair
+    answer
 }
 
 // The dealer's rehearsal on all n parts.
-pub fn rehearse(s: Params, matrix: &[u16], gs: &[u16], hs: &[u16]) -> Rehearsal
+pub fn rehearse(s: Params, matrix: &[u16], gs: &[u16], hs: &[u16]) -> Result<Rehearsal, Refusal>
     ensures { paper_rehearsal result ≡ rehearse_call (setup_of s matrix.now) gs.now hs.now }
 {
-    let refusal = rehearse_refusal(s, matrix, gs, hs);
-    if refusal != 0 {
-        return Rehearsal::Refused(refusal);
-    }
-    first_pair(s, matrix, gs, hs)
+    check_rehearse(s, matrix, gs, hs)?;
+    Ok(first_pair(s, matrix, gs, hs))
 }

@@ -1,30 +1,27 @@
 -- F's entries: where each stands in the key or among the random entries, and that it is below 257; seven of them as a list.
 use Prim.Native.Nat.{ℕ, ◌+◌, ◌-◌, ◌*◌, ◌<◌}
-use mathlib.Core.Path.{◌≡◌, refl, ap}
+use mathlib.Core.Path.{◌≡◌, refl, ap, ◌∙◌}
 use mathlib.Core.Bool.{Bool, true, false, ◌&&◌}
 use mathlib.Core.List.{List, [], ◌∷◌}
 use native.Mathlib.Omega.{arith}
 use borrow.Author.Tests.{lt-ltb, le-ltb}
-use mir.Syntax.{w8, w16}
-use mir.Val.{Fits}
+use lib.ListN.{length, take, drop}
+use Rattle.std.proofs.lemmas.List.{get_or-take, get_or-drop, length-take-le, length-drop}
 use lib.Dec.{ltb}
 use Rattle.base.specs.Choice.{pick}
 use Rattle.base.specs.Fill.{tab, tab_from}
 use Rattle.base.specs.Matrix.{Below}
+use Rattle.base.proofs.Fill.{tab-is}
 use Rattle.base.proofs.Matrix.{below-tab}
 use Rattle.field.specs.Dot.{at}
 use Rattle.scheme.specs.Dealing.{place, dealt_entry}
 use Rattle.scheme.proofs.Calls.{below-vec}
 use Rattle.key_entries.specs.Inner.{Lent, key_entry}
 
-pub seven : (f : ℕ → ℕ) {s t u v w x y : ℕ} → s ≡ f 0 → t ≡ f 1 → u ≡ f 2 → v ≡ f 3 → w ≡ f 4 → x ≡ f 5 → y ≡ f 6
+pub seven : {A : Type 0} (f : ℕ → A) {s t u v w x y : A} → s ≡ f 0 → t ≡ f 1 → u ≡ f 2 → v ≡ f 3 → w ≡ f 4 → x ≡ f 5 → y ≡ f 6
     → s ∷ t ∷ u ∷ v ∷ w ∷ x ∷ y ∷ [] ≡ tab 7 f
 unfolding tab tab_from
 seven f a b c d e g h = rw (a, b, c, d, e, g, h) refl
-
--- a byte is a number of 16 bits
-pub wide : (x : ℕ) → Fits w8 x → Fits w16 x
-wide x h = omega (arith, h)
 
 module _ (key random : List ℕ) where
   -- byte 4b + k of the key
@@ -42,6 +39,13 @@ module _ (key random : List ℕ) where
   of-rest k b t e =
       let h : 4 + k - 4 ≡ k = omega arith in
       rw (le-ltb (4 + k) 4 (omega arith), h) (ap (at random) (omega (arith, e)))
+
+  pub row_part : (k : ℕ) → k < 3 → length random ≡ 33 → take ((12 + 7 * k + 7) - (12 + 7 * k)) (drop (12 + 7 * k) random) ≡ tab 7 (key_entry key random (4 + k))
+  row_part k h size =
+      let t = 12 + 7 * k in
+      let s : (t + 7) - t ≡ 7 = omega arith in
+      tab-is 7 (key_entry key random (4 + k)) 0 _ (rw s (length-take-le 7 (drop t random) (omega (arith, h, size, length-drop t random))))
+      (λ b l. rw s (get_or-take 7 (drop t random) b 0 l ∙ get_or-drop t random b 0 ∙ of-rest k b (t + b) refl))
 
   module _ (ok : Lent key random) where
     entry-below : (k b : ℕ) → key_entry key random k b < 257

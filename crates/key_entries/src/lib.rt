@@ -12,10 +12,10 @@ pub fn key_row(key: &[u8], random: &[u16], k: usize) -> [u16; 7]
     ensures { result ≡ tab 7 (key_entry key.now random.now k) }
 {
     [
-        key[k] as u16,
-        key[4 + k] as u16,
-        key[8 + k] as u16,
-        key[12 + k] as u16,
+        u16::from(key[k]),
+        u16::from(key[4 + k]),
+        u16::from(key[8 + k]),
+        u16::from(key[12 + k]),
         random[3 * k],
         random[3 * k + 1],
         random[3 * k + 2],
@@ -28,15 +28,9 @@ pub fn random_row(random: &[u16], k: usize) -> [u16; 7]
     ensures { (key : List ℕ) → result ≡ tab 7 (key_entry key random.now (4 + k)) }
 {
     let at = 12 + 7 * k;
-    [
-        random[at],
-        random[at + 1],
-        random[at + 2],
-        random[at + 3],
-        random[at + 4],
-        random[at + 5],
-        random[at + 6],
-    ]
+    let mut row = [0u16; 7];
+    row.copy_from_slice(&random[at..at + 7]);
+    row
 }
 
 // Column b of F, b below 4: secret vector b, then three random entries.
@@ -46,10 +40,10 @@ pub fn key_column(key: &[u8], random: &[u16], b: usize) -> [u16; 7]
     ensures { result ≡ tab 7 (λ k. key_entry key.now random.now k b) }
 {
     [
-        key[4 * b] as u16,
-        key[4 * b + 1] as u16,
-        key[4 * b + 2] as u16,
-        key[4 * b + 3] as u16,
+        u16::from(key[4 * b]),
+        u16::from(key[4 * b + 1]),
+        u16::from(key[4 * b + 2]),
+        u16::from(key[4 * b + 3]),
         random[12 + b],
         random[19 + b],
         random[26 + b],

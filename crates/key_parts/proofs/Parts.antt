@@ -14,7 +14,8 @@ use Rattle.base.proofs.Rows.{Begun, begun-at}
 use Rattle.field.specs.Dot.{at, dot}
 use Rattle.field.proofs.Dot.{dot-step, dot-ext, dot-same, dot-comm, dot-comb, dot-le}
 use Rattle.lanes.proofs.Laws.{half_le}
-use Rattle.key_entries.specs.Inner.{key_entry}
+use Rattle.key_entries.specs.Inner.{Lent, key_entry}
+use Rattle.key_entries.proofs.Entries.{row_below, column-below}
 use Rattle.key_parts.specs.Inner.{Halves, matrix_entry, entry_g, entry_h, parts_g, parts_h}
 
 -- SUMS
@@ -44,26 +45,39 @@ module _ (columns : List (List ℕ)) (x : List ℕ) where
       ∙ dot-same 7 (λ k. 1 * at (get_or columns k []) i + 16 * at (get_or columns k []) (16 + i)) _ (at x) (at x) (λ k m. omega arith) (λ k m. refl)
       )))
 
--- products with a column and with a row of F are entries of g and of h
+-- products with the columns and with the rows of F are every g and every h
 with-vector : (u f : ℕ → ℕ) (x : List ℕ) → x ≡ tab 7 f → dot 7 u (at x) ≡ dot 7 u f
 with-vector u f x e = dot-ext 7 u (at x) f (λ k l. rw e (get_d-tab 7 f 0 k l))
 
-module _ (columns : List (List ℕ)) (key random x : List ℕ) where
-  pub products-g : (b : ℕ) (entries : List ℕ) → x ≡ tab 7 (λ k. key_entry key random k b)
-      → entries ≡ tab 16 (λ i. dot 7 (matrix_entry columns i) (at x) % 257) → entries ≡ tab 16 (λ i. entry_g (matrix_entry columns) key random i b)
-  unfolding entry_g
-  products-g b entries e h =
-      h ∙ tab-ext 16 _ _ (λ i l. ap (λ z. z % 257) (with-vector (matrix_entry columns i) (λ k. key_entry key random k b) x e))
-
-  pub products-h : (k : ℕ) (entries : List ℕ) → x ≡ tab 7 (key_entry key random k)
-      → entries ≡ tab 16 (λ i. dot 7 (matrix_entry columns i) (at x) % 257) → entries ≡ tab 16 (λ i. entry_h (matrix_entry columns) key random i k)
-  unfolding entry_h
-  products-h k entries e h =
-      h
-      ∙ tab-ext 16 _ _
-      (λ i l.
+module _ (columns : List (List ℕ)) (key random : List ℕ) (lines : List (List ℕ)) where
+  pub products-g : lines ≡ tab 7 (λ b. tab 7 (λ k. key_entry key random k b))
+      → tab 112 (flat 7 (λ i c. dot 7 (matrix_entry columns i) (at (get_or lines c [])) % 257)) ≡ parts_g (matrix_entry columns) key random
+  unfolding parts_g entry_g
+  products-g e =
+      tab-ext 112 _ _
+      (λ t l.
+      let b = t % 7 in
       ap (λ z. z % 257)
-      (with-vector (matrix_entry columns i) (key_entry key random k) x e ∙ dot-comm 7 (matrix_entry columns i) (key_entry key random k)))
+      (with-vector (matrix_entry columns (t / 7)) (λ k. key_entry key random k b) _ (rw e (get_d-tab 7 (λ b. tab 7 (λ k. key_entry key random k b)) [] b (place_at 7 16 t l).2))))
+
+  pub products-h : lines ≡ tab 7 (λ k. tab 7 (key_entry key random k))
+      → tab 112 (flat 7 (λ i c. dot 7 (matrix_entry columns i) (at (get_or lines c [])) % 257)) ≡ parts_h (matrix_entry columns) key random
+  unfolding parts_h entry_h
+  products-h e =
+      tab-ext 112 _ _
+      (λ t l.
+      let k = t % 7 in
+      let m = matrix_entry columns (t / 7) in
+      ap (λ z. z % 257)
+      (with-vector m (key_entry key random k) _ (rw e (get_d-tab 7 (λ k. tab 7 (key_entry key random k)) [] k (place_at 7 16 t l).2))
+      ∙ dot-comm 7 m (key_entry key random k)))
+
+module _ (key random : List ℕ) (lines : List (List ℕ)) where
+  pub rows-below : Lent key random → lines ≡ tab 7 (λ k. tab 7 (key_entry key random k)) → (c : ℕ) → c < 7 → Below 257 (get_or lines c [])
+  rows-below ok e c l = row_below key random ok c _ (rw e (get_d-tab 7 (λ k. tab 7 (key_entry key random k)) [] c l))
+
+  pub columns-below : Lent key random → lines ≡ tab 7 (λ b. tab 7 (λ k. key_entry key random k b)) → (c : ℕ) → c < 7 → Below 257 (get_or lines c [])
+  columns-below ok e c l = column-below key random ok c _ (rw e (get_d-tab 7 (λ b. tab 7 (λ k. key_entry key random k b)) [] c l))
 
 -- PARTS
 pub entry_of : (f : ℕ → ℕ) (entries : List ℕ) → entries ≡ tab 16 f → (t : ℕ) → t < 16 → at entries t ≡ f t

@@ -2,26 +2,26 @@
 // sixteen depots side by side. The work neither branches on nor indexes by a byte or an entry.
 #![tactic(auto)]
 
-ghost use Rattle.std.specs.Prelude.{◌≡◌, ◌+◌, ◌%◌, ◌<◌, length};
+ghost use Rattle.std.specs.Prelude.{◌≡◌, [], ℕ, ◌+◌, ◌%◌, ◌<◌, length, get_or};
 ghost use Rattle.base.specs.Fill.{tab, Put};
-ghost use Rattle.base.specs.Matrix.{entry, Below};
+ghost use Rattle.base.specs.Matrix.{entry, flat, Below};
 ghost use Rattle.field.specs.Dot.{at, dot};
 ghost use Rattle.scheme.specs.Points.{points_matrix};
-ghost use Rattle.key_entries.specs.Inner.{Lent};
+ghost use Rattle.key_entries.specs.Inner.{Lent, key_entry};
 ghost use Rattle.key_parts.specs.Inner.{Halves, matrix_entry, parts_h, parts_g};
 
-// The product of a row or a column x of F with every depot's row of the matrix.
-fn products(columns: &[[u16; 32]; 7], x: [u16; 7]) -> [u16; 16]
+// The product of a row or a column x of F with every depot's row of the matrix. It is not inlined, so that the compiler joins the sums in lanes before it puts
+// the sixteen entries apart; inlined, it joins them one by one.
+#[inline(never)]
+fn products(columns: &[[u16; 32]; 7], x: &[u16; 7]) -> [u16; 16]
     requires halves { Halves columns.now }
-    requires below { Below 257 x }
-    ensures { result ≡ tab 16 (λ i. dot 7 (matrix_entry columns.now i) (at x) % 257) }
+    requires below { Below 257 x.now }
+    ensures { result ≡ tab 16 (λ i. dot 7 (matrix_entry columns.now i) (at x.now) % 257) }
 {
     let mut sums = [0u16; 32];
-    let mut k = 0;
-    while k < 7 {
+    for k in 0..7 {
         let next = lanes::add32(sums, x[k], columns[k]);
         sums = next;
-        k += 1;
     }
     lanes::joined16(sums)
 }
@@ -31,65 +31,53 @@ fn put(out: &mut [u16], c: usize, entries: [u16; 16])
     requires { (length out.old ≡ 112) × (c < 7) }
     ensures { Put 7 16 c entries out.old out.new }
 {
-    let mut i = 0;
-    while i < 16 {
+    for i in 0..16 {
         out[c + i * 7] = entries[i];
-        i += 1;
     }
 }
 
-// Every depot's h = F m_i.
-fn write_h(columns: &[[u16; 32]; 7], key: &[u8], random: &[u16], hs: &mut [u16])
+// Every depot's products with seven rows or columns of F: with the rows its h = F m_i, with the columns its g = m_i F.
+fn write_products(columns: &[[u16; 32]; 7], lines: &[[u16; 7]; 7], out: &mut [u16])
     requires halves { Halves columns.now }
-    requires lent { Lent key.now random.now }
-    requires hs_len { length hs.old ≡ 112 }
-    ensures { hs.new ≡ parts_h (matrix_entry columns.now) key.now random.now }
+    requires below { (c : ℕ) → c < 7 → Below 257 (get_or lines.now c []) }
+    requires out_len { length out.old ≡ 112 }
+    ensures { out.new ≡ tab 112 (flat 7 (λ i c. dot 7 (matrix_entry columns.now i) (at (get_or lines.now c [])) % 257)) }
 {
-    let mut c = 0;
-    while c < 4 {
-        put(
-            hs,
-            c,
-            products(columns, key_entries::key_row(key, random, c)),
-        );
-        c += 1;
-    }
-    let mut c = 0;
-    while c < 3 {
-        put(
-            hs,
-            4 + c,
-            products(columns, key_entries::random_row(random, c)),
-        );
-        c += 1;
+    for (c, line) in lines.iter().enumerate() {
+        put(out, c, products(columns, line));
     }
 }
 
-// Every depot's g = m_i F.
-fn write_g(columns: &[[u16; 32]; 7], key: &[u8], random: &[u16], gs: &mut [u16])
-    requires halves { Halves columns.now }
-    requires lent { Lent key.now random.now }
-    requires gs_len { length gs.old ≡ 112 }
-    ensures { gs.new ≡ parts_g (matrix_entry columns.now) key.now random.now }
+// The rows of F.
+fn all_rows(key: &[u8], random: &[u16]) -> [[u16; 7]; 7]
+    requires { Lent key.now random.now }
+    ensures { result ≡ tab 7 (λ k. tab 7 (key_entry key.now random.now k)) }
 {
-    let mut c = 0;
-    while c < 4 {
-        put(
-            gs,
-            c,
-            products(columns, key_entries::key_column(key, random, c)),
-        );
-        c += 1;
-    }
-    let mut c = 0;
-    while c < 3 {
-        put(
-            gs,
-            4 + c,
-            products(columns, key_entries::random_column(random, c)),
-        );
-        c += 1;
-    }
+    [
+        key_entries::key_row(key, random, 0),
+        key_entries::key_row(key, random, 1),
+        key_entries::key_row(key, random, 2),
+        key_entries::key_row(key, random, 3),
+        key_entries::random_row(random, 0),
+        key_entries::random_row(random, 1),
+        key_entries::random_row(random, 2),
+    ]
+}
+
+// The columns of F.
+fn all_columns(key: &[u8], random: &[u16]) -> [[u16; 7]; 7]
+    requires { Lent key.now random.now }
+    ensures { result ≡ tab 7 (λ b. tab 7 (λ k. key_entry key.now random.now k b)) }
+{
+    [
+        key_entries::key_column(key, random, 0),
+        key_entries::key_column(key, random, 1),
+        key_entries::key_column(key, random, 2),
+        key_entries::key_column(key, random, 3),
+        key_entries::random_column(random, 0),
+        key_entries::random_column(random, 1),
+        key_entries::random_column(random, 2),
+    ]
 }
 
 // Every depot's part. Each h is written before any g.
@@ -99,9 +87,10 @@ pub fn write_parts(key: &[u8], random: &[u16], gs: &mut [u16], hs: &mut [u16])
     ensures gs_after { gs.new ≡ parts_g (entry 7 (points_matrix 257 7 16)) key.now random.now }
     ensures hs_after { hs.new ≡ parts_h (entry 7 (points_matrix 257 7 16)) key.now random.now }
 {
+    // A copy: of constants that it sees the compiler makes sums of shifts, entry by entry, in place of products in lanes.
     let columns = COLUMNS;
-    write_h(&columns, key, random, hs);
-    write_g(&columns, key, random, gs);
+    write_products(&columns, &all_rows(key, random), hs);
+    write_products(&columns, &all_columns(key, random), gs);
 }
 
 // THE MATRIX

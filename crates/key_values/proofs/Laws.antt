@@ -1,8 +1,7 @@
 -- What the sums and the tests need: bounds of sums of products, one product more, and what an answer says of its tests.
--- below-dot: a sum of at most 16 products of field elements
+-- below-dot, sums-below: a sum of at most 16 products of field elements, and so in all lanes
 -- dot-next, sums_none, sums_next: one product more, and so in all lanes
 -- agreed-no, agreed-yes: what the answer of one column says
--- fewer: fewer of the members
 -- columns-below: columns that are reduced
 use mathlib.Core.Path.{◌≡◌, refl, sym, ap, ◌∙◌}
 use mathlib.Core.Bool.{Bool, true, false, not, true≢false}
@@ -15,10 +14,10 @@ use Rattle.base.specs.Sum.{sum}
 use Rattle.base.specs.Fill.{tab, tab_from}
 use Rattle.base.specs.Matrix.{Below}
 use Rattle.base.proofs.Fill.{length-tab, get_d-tab, tab-ext}
+use Rattle.base.proofs.Matrix.{below-tab}
 use Rattle.field.specs.Dot.{at, dot}
 use Rattle.field.proofs.Dot.{dot-step, dot-le}
 use Rattle.lanes.proofs.Laws.{product_le}
-use Rattle.key_weights.specs.Inner.{Depots}
 use Rattle.key_weights.proofs.Lanes.{lanes-below}
 use Rattle.key_values.specs.Inner.{Columns, Agreed, all, differs}
 
@@ -36,6 +35,11 @@ sums_next n u f s w e h =
     tab-ext 16 _ _ (λ i l. ap (λ (z : List ℕ). at z i + u n * at w i) e ∙ ap (λ (z : List ℕ). at (tab 16 (λ i. dot n u (λ a. f a i))) i + u n * at z i) h
     ∙ rw (get_d-tab 16 (λ i. dot n u (λ a. f a i)) 0 i l, get_d-tab 16 (f n) 0 i l) (sym (dot-step n u (λ a. f a i))))
 
+pub sums-below : (n : ℕ) (u : ℕ → ℕ) (f : ℕ → ℕ → ℕ) (s : List ℕ) → n ≤ 16 → ((a : ℕ) → u a < 257) → ((a i : ℕ) → f a i < 257)
+    → s ≡ tab 16 (λ i. dot n u (λ a. f a i)) → Below 1048577 s
+sums-below n u f s l hu hf e =
+    rw e (below-tab 1048577 16 (λ i. dot n u (λ a. f a i)) (omega arith) (λ i m. below-dot n u (λ a. f a i) l (λ a h. hu a) (λ a h. hf a i)))
+
 pub dot-next : (i : ℕ) (u v : ℕ → ℕ) (s y : ℕ) → s ≡ dot i u v → y ≡ v i → s + u i * y ≡ dot (i + 1) u v
 dot-next i u v s y e h = rw (e, h) (sym (dot-step i u v))
 
@@ -47,13 +51,6 @@ agreed-no k t false (differs x l m h) e = (x, l, m, h)
 pub agreed-yes : (k : ℕ) (t : ℕ → Bool) (r : Bool) → Agreed k t r → not r ≡ false → (x : ℕ) → 7 ≤ x → x < k → t x ≡ true
 agreed-yes k t true (all h) e = h
 agreed-yes k t false (differs x l m h) e = absurd (true≢false e)
-
-pub fewer : {k j : ℕ} {ms : List ℕ} → Depots k ms → j ≤ k → Depots j ms
-fewer D l = record {
-  fits = omega (arith, D.fits);
-  below = λ a m. D.below a (omega arith);
-  rise = λ a b m n. D.rise a b m (omega arith);
-}
 
 pub columns-below : (f : ℕ → ℕ → ℕ) (t : List (List ℕ)) → t ≡ tab 4 (λ b. tab 16 (λ i. f b i % 257)) → Columns t
 columns-below f t e b = go (dec_lt b 4)

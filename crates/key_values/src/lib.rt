@@ -7,55 +7,35 @@ ghost use Rattle.std.specs.Prelude.{◌≡◌, [], ◌+◌, ◌*◌, ◌^◌, �
 ghost use Rattle.base.specs.Fill.{tab};
 ghost use Rattle.base.specs.Matrix.{flat, Below};
 ghost use Rattle.key_weights.specs.Inner.{Depots};
-ghost use Rattle.key_values.specs.Inner.{Columns, Tables, Ready, shown, read_at, expected, agrees, Agreed, AllAgreed, depots, Interpolates};
+ghost use Rattle.key_values.specs.Inner.{Columns, Tables, Ready, shown, read_at, expected, agrees, Agreed, AllAgreed, depots, Interpolated};
 
 // POSITIONS
-#[derive(Clone, Copy)]
-struct Four {
-    a: u32,
-    b: u32,
-    c: u32,
-    d: u32,
-}
-
-// A column's products with the four rows of v.
-fn dots(scaled: [u16; 16], v: &[u16; 64]) -> Four
+// A column's product with row q of v.
+fn dot(scaled: [u16; 16], v: &[u16; 64], q: usize) -> u32
+    requires q_bound { q < 4 }
     requires below { Below 257 scaled }
     requires below_2 { Below 257 v.now }
-    ensures a_value { result.a ≡ shown scaled v.now 0 }
-    ensures b_value { result.b ≡ shown scaled v.now 1 }
-    ensures c_value { result.c ≡ shown scaled v.now 2 }
-    ensures d_value { result.d ≡ shown scaled v.now 3 }
+    ensures { result ≡ shown scaled v.now q }
 {
-    let mut a: u32 = 0;
-    let mut b: u32 = 0;
-    let mut c: u32 = 0;
-    let mut d: u32 = 0;
-    let mut i = 0;
-    while i < 16 {
-        let x = scaled[i];
-        a = lanes::plus(a, x, v[i]);
-        b = lanes::plus(b, x, v[16 + i]);
-        c = lanes::plus(c, x, v[32 + i]);
-        d = lanes::plus(d, x, v[48 + i]);
-        i += 1;
+    let mut sum: u32 = 0;
+    for i in 0..16 {
+        sum = lanes::plus(sum, scaled[i], v[16 * q + i]);
     }
-    Four { a, b, c, d }
+    sum
 }
 
-// So for the four columns.
+// The four columns' products with the four rows.
+#[tactic(auto, using(key_weights::proofs::Lanes::lanes_are))]
 fn sums(scaled: &[[u16; 16]; 4], v: &[u16; 64]) -> [u32; 16]
     requires columns { Columns scaled.now }
     requires below { Below 257 v.now }
     ensures { result ≡ tab 16 (flat 4 (λ b. shown (get_or scaled.now b []) v.now)) }
 {
-    let a = dots(scaled[0], v);
-    let b = dots(scaled[1], v);
-    let c = dots(scaled[2], v);
-    let d = dots(scaled[3], v);
-    [
-        a.a, a.b, a.c, a.d, b.a, b.b, b.c, b.d, c.a, c.b, c.c, c.d, d.a, d.b, d.c, d.d,
-    ]
+    let mut r = [0u32; 16];
+    for c in 0..16 {
+        r[c] = dot(scaled[c / 4], v, c % 4);
+    }
+    r
 }
 
 // The sixteen positions.
@@ -77,12 +57,10 @@ fn expected(inverses: &[u16; 31], members: &[u16], scaled: [u16; 16]) -> [u16; 1
     ensures { result ≡ tab 16 (expected inverses.now members.now scaled) }
 {
     let mut sums = [0u32; 16];
-    let mut a = 0;
-    while a < 7 {
-        let j = members[a] as usize;
-        let next = lanes::add16(sums, scaled[j], key_weights::away_from(inverses, j));
+    for &j in &members[..7] {
+        let place = usize::from(j);
+        let next = lanes::add16(sums, scaled[place], key_weights::away_from(inverses, place));
         sums = next;
-        a += 1;
     }
     lanes::folded16(sums)
 }
@@ -102,13 +80,11 @@ fn agree(
     requires below_2 { Below 257 weights }
     ensures { Agreed k (agrees expected weights shares.now start members.now) result }
 {
-    let mut x = 7;
-    while x < k {
-        let i = members[x] as usize;
+    for x in 7..k {
+        let i = usize::from(members[x]);
         if lanes::times(shares[start + x], weights[i]) != expected[i] {
             return false;
         }
-        x += 1;
     }
     true
 }
@@ -133,58 +109,48 @@ fn all_agree(
     if k == 7 {
         return true;
     }
-    let mut b = 0;
-    while b < 4 {
-        let wanted = expected(inverses, members, scaled[b]);
+    for (b, column) in scaled.iter().enumerate() {
+        let wanted = expected(inverses, members, *column);
         if !agree(wanted, weights, shares, b * k, members, k) {
             return false;
         }
-        b += 1;
     }
     true
 }
 
 // THE FOUR COLUMNS
-// The sixteen positions, and whether every share lies on its column's polynomial.
-#[derive(Clone, Copy)]
-pub struct Interpolated {
-    pub consistent: bool,
-    pub values: [u16; 16],
-}
-
-// From the tables and the members, of whom there are at least seven.
+// The sixteen positions, where every share lies on its column's polynomial: from the tables and the members, of whom there are at least seven.
 fn interpolate_by(
     inverses: &[u16; 31],
     positions: &[u16; 64],
     members: &[u16],
     shares: &[u16],
-) -> Interpolated
+) -> Option<[u16; 16]>
     requires tables { Tables inverses.now positions.now }
     requires ready { Ready members.now shares.now }
-    ensures { Interpolates members.now shares.now result.consistent result.values }
+    ensures { Interpolated members.now shares.now result }
 {
     let k = members.len();
     let w = key_weights::weigh(inverses, members);
-    let weights = w.inverses;
-    let products = w.products;
-    let scaled = key_weights::scale(shares, k, members, weights);
-    let values = read(&scaled, positions, products);
-    let consistent = all_agree(inverses, weights, &scaled, shares, members, k);
-    Interpolated { consistent, values }
+    let scaled = key_weights::scale(shares, k, members, w.inverses);
+    let values = read(&scaled, positions, w.products);
+    if all_agree(inverses, w.inverses, &scaled, shares, members, k) {
+        Some(values)
+    } else {
+        None
+    }
 }
 
 // What the shares of a set give, of at least seven of the sixteen depots.
-pub fn interpolate(set: u32, shares: &[u16]) -> Interpolated
+pub fn interpolate(set: u32, shares: &[u16]) -> Option<[u16; 16]>
     requires set_bound { set < 2 ^ 16 }
     requires in_bounds { (7 ≤ length (depots set)) × (length shares.now ≡ 4 * length (depots set)) }
     requires below { Below 257 shares.now }
-    ensures { Interpolates (depots set) shares.now result.consistent result.values }
+    ensures { Interpolated (depots set) shares.now result }
 {
-    let inverses = INVERSES;
-    let positions = POSITIONS;
     let mut members = [0u16; 32];
     let k = set_systems::walk(set, &mut members);
-    interpolate_by(&inverses, &positions, &members[..k], shares)
+    interpolate_by(&INVERSES, &POSITIONS, &members[..k], shares)
 }
 
 // TABLES

@@ -1,5 +1,8 @@
 -- What the loops over lanes need: one factor and one share more, and that lanes hold field elements.
 -- lanes-below: lanes that are reduced
+-- lanes_are, columns_are: sixteen lanes, and four columns, that a function gives
+-- away_part: sixteen inverses in a row
+-- among: one of the first seven members
 -- prod-next: a product modulo 257, one factor more; factors-none, factors-next: so in all lanes
 -- apart: different members are different depots
 -- spread_at, spread-other: the share at a member's place, and 0 at every other
@@ -7,29 +10,45 @@
 -- placed_below, scaled-column: a column of shares, and these times the weights
 use mathlib.Core.Path.{◌≡◌, refl, sym, ap, ◌∙◌}
 use mathlib.Core.List.{List, []}
-use Prim.Native.Nat.{ℕ, zero, suc, ◌+◌, ◌*◌, ◌%◌, ◌≤◌, ◌<◌}
+use Prim.Native.Nat.{ℕ, zero, suc, ◌+◌, ◌-◌, ◌*◌, ◌%◌, ◌≤◌, ◌<◌}
 use native.Mathlib.Nat.{mod-lt}
 use native.Mathlib.Decide.{dec_lt}
 use native.Mathlib.Numerals.{add-one}
 use native.Mathlib.Omega.{arith}
-use lib.ListN.{length, get_or, set, length-set, replicate}
+use lib.ListN.{length, get_or, set, length-set, replicate, take, drop}
+use Rattle.std.proofs.lemmas.List.{get_or-take, get_or-drop, length-take, length-take-le, length-drop}
 use lib.Seq.{get_or-set_same, get_or-set_other}
 use Rattle.base.specs.Sum.{sum, unit}
-use Rattle.base.specs.Fill.{tab, tab_from, filled}
+use Rattle.base.specs.Fill.{tab, tab_from}
 use Rattle.base.specs.Matrix.{Below}
 use Rattle.base.proofs.Choice.{either}
 use Rattle.base.proofs.Sum.{unit-same, unit-other}
-use Rattle.base.proofs.Fill.{length-tab, get_d-tab, tab-is, tab-ext, filled-whole}
+use Rattle.base.proofs.Fill.{length-tab, get_d-tab, tab-is, tab-ext}
 use Rattle.base.proofs.Matrix.{below-tab}
 use Rattle.field.specs.Dot.{at, dot}
 use Rattle.field.proofs.Congruence.{mod-mul-mod}
 use Rattle.field.proofs.Dot.{dot-step, dot-same, dot-unit, dot-none}
 use Rattle.polynomial.specs.Polynomial.{prod}
-use Rattle.key_weights.specs.Inner.{Depots, spread, placed_at, scaled_at}
+use Rattle.key_weights.specs.Inner.{Depots, spread, away, placed_at, scaled_at}
 
 -- lanes below 257
 pub lanes-below : (f : ℕ → ℕ) (l : List ℕ) → l ≡ tab 16 (λ i. f i % 257) → Below 257 l
 lanes-below f l e = rw e (below-tab 257 16 (λ i. f i % 257) (omega arith) (λ k m. mod-lt (f k) (omega arith)))
+
+-- lanes that a function gives
+pub lanes_are : (f : ℕ → ℕ) (l : List ℕ) → length l ≡ 16 → ((k : ℕ) → k < 16 → at l k ≡ f k) → l ≡ tab 16 f
+lanes_are f l size each = tab-is 16 f 0 l size each
+
+-- sixteen of the inverses, from that at which depot 0 stands
+pub away_part : (t : List ℕ) (j : ℕ) → length t ≡ 31 → j < 16 → take ((15 - j + 16) - (15 - j)) (drop (15 - j) t) ≡ tab 16 (away t j)
+away_part t j size small =
+    let s : (15 - j + 16) - (15 - j) ≡ 16 = omega arith in
+    lanes_are (away t j) _ (rw s (length-take-le 16 (drop (15 - j) t) (omega (arith, length-drop (15 - j) t))))
+    (λ k l. rw s (get_or-take 16 (drop (15 - j) t) k 0 l ∙ get_or-drop (15 - j) t k 0))
+
+-- a member among the first seven
+pub among : (ms : List ℕ) (a : ℕ) → a < length (take 7 ms) → at (take 7 ms) a ≡ at ms a
+among ms a l = get_or-take 7 ms a 0 (omega (arith, l, length-take 7 ms))
 
 -- FACTORS
 pub prod-next : (n : ℕ) (f : ℕ → ℕ) → (prod n f % 257 * f n) % 257 ≡ prod (n + 1) f % 257
@@ -97,10 +116,10 @@ spread-below ms {k} D x small (suc n) i l =
     (λ e. rw (← e, spread_at ms D x (suc n) n l (omega arith)) (small n))
     (λ h. rw (spread-skip ms D x n i h) (spread-below ms D x small n i (omega arith)))
 
-pub four-filled : (f : ℕ → List ℕ) (l : List (List ℕ)) → length l ≡ 4 → filled f 4 l ≡ tab 4 f
-four-filled f l e = rw e at (filled-whole f [] l)
-
 -- COLUMNS
+pub columns_are : (f : ℕ → List ℕ) (l : List (List ℕ)) → length l ≡ 4 → ((b : ℕ) → b < 4 → get_or l b [] ≡ f b) → l ≡ tab 4 f
+columns_are f l size each = tab-is 4 f [] l size each
+
 module _ (ms xs : List ℕ) (k : ℕ) (D : Depots 7 ms) (small : Below 257 xs) {placed : List (List ℕ)} (e : placed ≡ tab 4 (λ b. placed_at ms xs (b * k)))
     (b : ℕ) (l : b < 4) where
   column : get_or placed b [] ≡ placed_at ms xs (b * k)

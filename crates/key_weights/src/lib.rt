@@ -17,24 +17,19 @@ pub fn away_from(inverses: &[u16; 31], j: usize) -> [u16; 16]
 {
     let from = 15 - j;
     let mut r = [0u16; 16];
-    let mut i = 0;
-    while i < 16 {
-        r[i] = inverses[from + i];
-        i += 1;
-    }
+    r.copy_from_slice(&inverses[from..from + 16]);
     r
 }
 
 // q - 7 - j modulo 257 for the positions q, once for each column.
+#[tactic(auto, using(crate::proofs::Lanes::lanes_are))]
 fn behind(j: u16) -> [u16; 16]
     requires { j < 16 }
     ensures { result ≡ tab 16 (behind j) }
 {
     let mut r = [0u16; 16];
-    let mut c = 0;
-    while c < 16 {
+    for c in 0..16 {
         r[c] = 250 + ((c % 4) as u16) - j;
-        c += 1;
     }
     r
 }
@@ -55,14 +50,11 @@ pub fn weigh(inverses: &[u16; 31], members: &[u16]) -> Weights
 {
     let mut x = [1u16; 16];
     let mut y = [1u16; 16];
-    let mut a = 0;
-    while a < 7 {
-        let j = members[a];
-        let next_x = lanes::times16(x, away_from(inverses, j as usize));
+    for &j in &members[..7] {
+        let next_x = lanes::times16(x, away_from(inverses, usize::from(j)));
         let next_y = lanes::times16(y, behind(j));
         x = next_x;
         y = next_y;
-        a += 1;
     }
     Weights {
         inverses: x,
@@ -78,31 +70,28 @@ fn placed(shares: &[u16], start: usize, members: &[u16]) -> [u16; 16]
     ensures { result ≡ placed_at members.now shares.now start }
 {
     let mut r = [0u16; 16];
-    let mut a = 0;
-    while a < 7 {
-        let j = members[a] as usize;
-        r[j] = shares[start + a];
-        a += 1;
+    for (a, &j) in members[..7].iter().enumerate() {
+        r[usize::from(j)] = shares[start + a];
     }
     r
 }
 
 // So for the four columns of k shares.
+#[tactic(auto, using(crate::proofs::Lanes::columns_are))]
 fn place(shares: &[u16], k: usize, members: &[u16]) -> [[u16; 16]; 4]
     requires le_k { (7 ≤ k) × (k ≤ 16) × (length shares.now ≡ 4 * k) }
     requires depots { Depots 7 members.now }
     ensures { result ≡ tab 4 (λ b. placed_at members.now shares.now (b * k)) }
 {
     let mut r = [[0u16; 16]; 4];
-    let mut b = 0;
-    while b < 4 {
+    for b in 0..4 {
         r[b] = placed(shares, b * k, members);
-        b += 1;
     }
     r
 }
 
 // The four columns' shares times the depots' weights. All are placed before any is multiplied: the processor waits for a store that it reads in wider parts.
+#[tactic(auto, using(crate::proofs::Lanes::columns_are))]
 pub fn scale(shares: &[u16], k: usize, members: &[u16], weights: [u16; 16]) -> [[u16; 16]; 4]
     requires le_k { (7 ≤ k) × (k ≤ 16) × (length shares.now ≡ 4 * k) }
     requires depots { Depots 7 members.now }
@@ -112,10 +101,8 @@ pub fn scale(shares: &[u16], k: usize, members: &[u16], weights: [u16; 16]) -> [
 {
     let placed = place(shares, k, members);
     let mut r = [[0u16; 16]; 4];
-    let mut b = 0;
-    while b < 4 {
+    for b in 0..4 {
         r[b] = lanes::times16(placed[b], weights);
-        b += 1;
     }
     r
 }

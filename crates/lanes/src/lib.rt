@@ -5,27 +5,16 @@ ghost use Rattle.std.specs.Prelude.{◌≡◌, ◌+◌, ◌*◌, ◌/◌, ◌%�
 ghost use Rattle.base.specs.Fill.{tab};
 ghost use Rattle.base.specs.Matrix.{Below};
 
+use std::array;
+
 // PRODUCTS
-// The low half of a product.
-fn low(a: u16, b: u16) -> u16
-    ensures { result ≡ a * b % 65536 }
-{
-    ((a as u32) * (b as u32) % 65536) as u16
-}
-
-// The high half of a product.
-fn high(a: u16, b: u16) -> u16
-    ensures { result ≡ a * b / 65536 }
-{
-    ((a as u32) * (b as u32) / 65536) as u16
-}
-
-// a b modulo 257: 65536 is 1 modulo 257, so the halves are added.
+// a b modulo 257: 65536 is 1 modulo 257, so the halves of the product are added.
 pub fn times(a: u16, b: u16) -> u16
     requires { (a ≤ 256) × (b ≤ 256) }
     ensures { result ≡ a * b % 257 }
 {
-    (low(a, b) + high(a, b)) % 257
+    let (low, high) = a.carrying_mul(b, 0);
+    (low + high) % 257
 }
 
 // The products of 16 lanes.
@@ -34,13 +23,7 @@ pub fn times16(a: [u16; 16], b: [u16; 16]) -> [u16; 16]
     requires below_2 { Below 257 b }
     ensures { result ≡ tab 16 (λ i. get_or a i 0 * get_or b i 0 % 257) }
 {
-    let mut r = [0u16; 16];
-    let mut i = 0;
-    while i < 16 {
-        r[i] = times(a[i], b[i]);
-        i += 1;
-    }
-    r
+    array::from_fn(|i| times(a[i], b[i]))
 }
 
 // SUMS OF 32 BITS
@@ -49,7 +32,7 @@ pub fn plus(sum: u32, x: u16, y: u16) -> u32
     requires { (sum < 1048577) × (x < 257) × (y < 257) }
     ensures { result ≡ sum + x * y }
 {
-    sum + ((x % 512) as u32) * ((y % 512) as u32)
+    sum + u32::from(x % 512) * u32::from(y % 512)
 }
 
 // x times a is added in 16 lanes.
@@ -59,13 +42,7 @@ pub fn add16(sums: [u32; 16], x: u16, a: [u16; 16]) -> [u32; 16]
     requires below_2 { Below 257 a }
     ensures { result ≡ tab 16 (λ i. get_or sums i 0 + x * get_or a i 0) }
 {
-    let mut r = [0u32; 16];
-    let mut i = 0;
-    while i < 16 {
-        r[i] = plus(sums[i], x, a[i]);
-        i += 1;
-    }
-    r
+    array::from_fn(|i| plus(sums[i], x, a[i]))
 }
 
 // x times eight entries of a, from `at` on, is added in 8 lanes.
@@ -75,13 +52,7 @@ pub fn add8(sums: [u32; 8], x: u16, a: &[u16], at: usize) -> [u32; 8]
     requires below_2 { Below 257 a.now }
     ensures { result ≡ tab 8 (λ t. get_or sums t 0 + x * get_or a.now (at + t) 0) }
 {
-    let mut r = [0u32; 8];
-    let mut t = 0;
-    while t < 8 {
-        r[t] = sums[t] + (x as u32) * (a[at + t] as u32);
-        t += 1;
-    }
-    r
+    array::from_fn(|t| sums[t] + u32::from(x) * u32::from(a[at + t]))
 }
 
 // A sum of at most 16 products modulo 257: 256 is -1 modulo 257, and 4112 is 16 times 257.
@@ -97,13 +68,7 @@ pub fn folded16(s: [u32; 16]) -> [u16; 16]
     requires { Below 1048577 s }
     ensures { result ≡ tab 16 (λ i. get_or s i 0 % 257) }
 {
-    let mut r = [0u16; 16];
-    let mut i = 0;
-    while i < 16 {
-        r[i] = folded(s[i]);
-        i += 1;
-    }
-    r
+    array::from_fn(|i| folded(s[i]))
 }
 
 // SUMS OF 16 BITS, of products with numbers of at most 16
@@ -122,13 +87,7 @@ pub fn add32(sums: [u16; 32], x: u16, a: [u16; 32]) -> [u16; 32]
     requires below_2 { Below 17 a }
     ensures { result ≡ tab 32 (λ i. get_or sums i 0 + x * get_or a i 0) }
 {
-    let mut r = [0u16; 32];
-    let mut i = 0;
-    while i < 32 {
-        r[i] = more(sums[i], x, a[i]);
-        i += 1;
-    }
-    r
+    array::from_fn(|i| more(sums[i], x, a[i]))
 }
 
 // A sum of products from the sum u of those with remainders by 16 and the sum v of those with quotients by 16.
@@ -144,11 +103,5 @@ pub fn joined16(sums: [u16; 32]) -> [u16; 16]
     requires { Below 61440 sums }
     ensures { result ≡ tab 16 (λ i. (get_or sums i 0 + 16 * get_or sums (16 + i) 0) % 257) }
 {
-    let mut r = [0u16; 16];
-    let mut i = 0;
-    while i < 16 {
-        r[i] = joined(sums[i], sums[16 + i]);
-        i += 1;
-    }
-    r
+    array::from_fn(|i| joined(sums[i], sums[16 + i]))
 }

@@ -5,15 +5,17 @@
 ghost use Rattle.std.specs.Prelude.{◌≡◌, [], ◌∷◌, ◌++◌, ◌+◌, ◌*◌, ◌≤◌, length};
 ghost use Rattle.std.proofs.lemmas.List.Edits.{sets};
 ghost use Rattle.base.specs.Rules.{refusal};
+ghost use Rattle.base.specs.Refusals.{refused_by};
 ghost use Rattle.scheme.specs.Setup.{dim, setup_of};
-ghost use Rattle.scheme.specs.Calls.{limits, size};
+ghost use Rattle.scheme.specs.Calls.{limits, size, beyond_field};
 ghost use Rattle.scheme.specs.Answers.{paper_written};
 ghost use Rattle.record_words.specs.Words.{bytes};
 ghost use Rattle.record_layouts.specs.Records.{setup_words, write_setup_call, write_setup_left, mapped_words, write_mapped_call, write_mapped_left};
 ghost use Rattle.record_layouts.specs.Records.{parts, parts_layout_of, write_call, write_left, write_dealing_call, write_dealing_left, write_zero_call, write_zero_left};
 
+use base::Refusal;
 use record_layouts::{DEALING_HEAD, DealingRecord, MARK_DF, MARK_DL, MARK_DZ, MARK_SU, SETUP_HEAD};
-use scheme::{Params, Written};
+use scheme::Params;
 
 // SU
 // The words of an SU, which fill the buffer.
@@ -26,19 +28,16 @@ fn put_setup(s: Params, matrix: &[u16], out: &mut [u8])
     record_words::put_words(out, 5, matrix);
 }
 
-pub fn write_setup(s: Params, matrix: &[u16], out: &mut [u8]) -> Written
+pub fn write_setup(s: Params, matrix: &[u16], out: &mut [u8]) -> Result<(), Refusal>
     ensures answer { paper_written result ≡ write_setup_call (setup_of s matrix.now) out.old }
     ensures buffer { out.new ≡ write_setup_left (setup_of s matrix.now) out.old }
 {
     let len = s.matrix_len();
-    let a = scheme::or_size(scheme::limits_refusal(s), matrix.len(), len);
-    let b = scheme::or_size(a, out.len(), SETUP_HEAD + 2 * len);
-    let refusal = scheme::or_elements(b, s.p, matrix);
-    if refusal != 0 {
-        return Written::Refused(refusal);
-    }
+    scheme::check_matrix_len(s, matrix.len())?;
+    scheme::check_size(out.len(), SETUP_HEAD + 2 * len)?;
+    scheme::check_elements(s.p, matrix)?;
     put_setup(s, matrix, out);
-    Written::Done
+    Ok(())
 }
 
 // DL, DZ AND DF
@@ -63,19 +62,28 @@ fn put_mapped(x: DealingRecord, g: &[u16], h: &[u16], phi: &[u16], out: &mut [u8
 }
 
 // The limits, and the lengths of the buffer, of g and of h, which has `many` entries.
-fn lengths_refusal(
+fn check_lengths(
     s: Params,
     room: usize,
     needed: usize,
     g_len: usize,
     h_len: usize,
     many: usize,
-) -> u16
-    ensures { result ≡ refusal (limits (setup_of s []) ++ size «room» «needed» ∷ size g_len (dim (setup_of s [])) ∷ size h_len many ∷ []) }
+) -> Result<(), Refusal>
+    ensures { refused_by result ≡ refusal (limits (setup_of s []) ++ size «room» «needed» ∷ size g_len (dim (setup_of s [])) ∷ size h_len many ∷ []) }
 {
-    let a = scheme::or_size(scheme::limits_refusal(s), room, needed);
-    let b = scheme::or_size(a, g_len, s.dim());
-    scheme::or_size(b, h_len, many)
+    scheme::check_limits(s)?;
+    scheme::check_size(room, needed)?;
+    scheme::check_size(g_len, s.dim())?;
+    scheme::check_size(h_len, many)
+}
+
+// The elements of g and of h.
+fn check_lists(p: u16, g: &[u16], h: &[u16]) -> Result<(), Refusal>
+    ensures { refused_by result ≡ refusal (beyond_field p g.now ∷ beyond_field p h.now ∷ []) }
+{
+    scheme::check_elements(p, g)?;
+    scheme::check_elements(p, h)
 }
 
 // DL's fields, with `many` entries of h, under a mark.
@@ -87,23 +95,26 @@ fn write_parts(
     g: &[u16],
     h: &[u16],
     out: &mut [u8],
-) -> Written
+) -> Result<(), Refusal>
     requires { many ≤ 131070 }
     ensures answer { paper_written result ≡ write_call (parts_layout_of mark (λ S. 6 + 2 * (dim S + many)) (λ S. many)) (setup_of s []) (parts x g.now h.now) out.old }
     ensures buffer { out.new ≡ write_left (parts_layout_of mark (λ S. 6 + 2 * (dim S + many)) (λ S. many)) (setup_of s []) (parts x g.now h.now) out.old }
 {
     let needed = DEALING_HEAD + 2 * (s.dim() + many);
-    let c = lengths_refusal(s, out.len(), needed, g.len(), h.len(), many);
-    let e = scheme::or_elements(scheme::or_elements(c, s.p, g), s.p, h);
-    let refusal = record_layouts::dealing_faults(e, s, x);
-    if refusal != 0 {
-        return Written::Refused(refusal);
-    }
+    check_lengths(s, out.len(), needed, g.len(), h.len(), many)?;
+    check_lists(s.p, g, h)?;
+    record_layouts::check_dealing(s, x)?;
     put_dealing(mark, x, g, h, out);
-    Written::Done
+    Ok(())
 }
 
-pub fn write_dealing(s: Params, x: DealingRecord, g: &[u16], h: &[u16], out: &mut [u8]) -> Written
+pub fn write_dealing(
+    s: Params,
+    x: DealingRecord,
+    g: &[u16],
+    h: &[u16],
+    out: &mut [u8],
+) -> Result<(), Refusal>
     ensures answer { paper_written result ≡ write_dealing_call (setup_of s []) x g.now h.now out.old }
     ensures buffer { out.new ≡ write_dealing_left (setup_of s []) x g.now h.now out.old }
 {
@@ -116,7 +127,7 @@ pub fn write_zero_dealing(
     g: &[u16],
     h: &[u16],
     out: &mut [u8],
-) -> Written
+) -> Result<(), Refusal>
     ensures answer { paper_written result ≡ write_zero_call (setup_of s []) x g.now h.now out.old }
     ensures buffer { out.new ≡ write_zero_left (setup_of s []) x g.now h.now out.old }
 {
@@ -130,20 +141,18 @@ pub fn write_mapped_dealing(
     h: &[u16],
     phi: &[u16],
     out: &mut [u8],
-) -> Written
+) -> Result<(), Refusal>
     ensures answer { paper_written result ≡ write_mapped_call (setup_of s []) x g.now h.now phi.now out.old }
     ensures buffer { out.new ≡ write_mapped_left (setup_of s []) x g.now h.now phi.now out.old }
 {
     let len = record_layouts::map_len(s);
     let d = s.dim();
     let needed = DEALING_HEAD + 4 * d + 2 * len;
-    let a = lengths_refusal(s, out.len(), needed, g.len(), h.len(), d);
-    let b = scheme::or_size(a, phi.len(), len);
-    let e = scheme::or_elements(scheme::or_elements(b, s.p, g), s.p, h);
-    let refusal = record_layouts::dealing_faults(scheme::or_elements(e, s.p, phi), s, x);
-    if refusal != 0 {
-        return Written::Refused(refusal);
-    }
+    check_lengths(s, out.len(), needed, g.len(), h.len(), d)?;
+    scheme::check_size(phi.len(), len)?;
+    check_lists(s.p, g, h)?;
+    scheme::check_elements(s.p, phi)?;
+    record_layouts::check_dealing(s, x)?;
     put_mapped(x, g, h, phi, out);
-    Written::Done
+    Ok(())
 }

@@ -4,7 +4,8 @@
 #![tactic(auto)]
 
 ghost use Rattle.std.specs.Prelude.{◌≡◌, [], ◌∷◌, ◌+◌, ◌*◌};
-ghost use Rattle.base.specs.Rules.{refusal, refusal_from};
+ghost use Rattle.base.specs.Rules.{refusal};
+ghost use Rattle.base.specs.Refusals.{refused_by};
 ghost use Rattle.base.specs.Fill.{filled, laid};
 ghost use Rattle.base.specs.Matrix.{flat};
 ghost use Rattle.scheme.specs.Setup.{setup_of};
@@ -15,10 +16,12 @@ ghost use Rattle.parts.specs.Inner.{line_entry};
 ghost use Rattle.dealing.specs.Inner.{sized};
 ghost use Rattle.mapped_dealing.specs.Inner.{RowRoom, MappedRoom};
 
-use scheme::{Params, Written};
+use base::Refusal;
+use scheme::Params;
 
 // F_φ
 // Row k of F_φ, for k below ℓ: the products of row k of φ and the first ℓ entries of d lines of F. Line b starts at b * apart and goes on by `step`.
+#[tactic(auto, unfolding(base::specs::Fill::laid, parts::specs::Inner::line_entry))]
 fn map_row(
     p: u16,
     l: usize,
@@ -33,10 +36,8 @@ fn map_row(
     requires { RowRoom p l d phi.now k f.now apart step f2.old }
     ensures { f2.new ≡ laid (line_entry p l phi.now f.now apart step k) (k * d) d f2.old }
 {
-    let mut b = 0;
-    while b < d {
+    for b in 0..d {
         f2[k * d + b] = field::dot_product(p, l, phi, k * l, f, b * apart, step);
-        b += 1;
     }
 }
 
@@ -50,27 +51,25 @@ fn fill_mapped(s: Params, phi: &[u16], random2: &[u16], f: &[u16], f2: &mut [u16
     let l = s.l as usize;
     let e = s.e as usize;
     let d = l + e;
-    let mut k = 0;
-    while k < l {
+    for k in 0..l {
         map_row(p, l, d, phi, k, f, 1, d, f2);
-        k += 1;
     }
     dealing::copy(random2, 0, 1, e * d, f2, l * d);
 }
 
 // DEAL WITH A MAP
 // Refusal 3 of the four buffers of a dealing with a map, by their lengths.
-fn or_buffers(standing: u16, needed: usize, g: usize, h: usize, g2: usize, h2: usize) -> u16
-    ensures { result ≡ refusal_from standing (sizes (room g needed ∷ room h needed ∷ room g2 needed ∷ room h2 needed ∷ [])) }
+fn check_buffers(needed: usize, g: usize, h: usize, g2: usize, h2: usize) -> Result<(), Refusal>
+    ensures { refused_by result ≡ refusal (sizes (room g needed ∷ room h needed ∷ room g2 needed ∷ room h2 needed ∷ [])) }
 {
-    let a = scheme::or_size(standing, g, needed);
-    let b = scheme::or_size(a, h, needed);
-    let c = scheme::or_size(b, g2, needed);
-    scheme::or_size(c, h2, needed)
+    scheme::check_size(g, needed)?;
+    scheme::check_size(h, needed)?;
+    scheme::check_size(g2, needed)?;
+    scheme::check_size(h2, needed)
 }
 
 // Refusals 1 to 4 of the calls that deal with a map, with the lengths of the four buffers: the calls differ in the length needed.
-fn mapped_refusal(
+fn check_mapped(
     s: Params,
     matrix: &[u16],
     secrets: &[u16],
@@ -82,17 +81,17 @@ fn mapped_refusal(
     h: usize,
     g2: usize,
     h2: usize,
-) -> u16
-    ensures { result ≡ refusal (table (setup_of s matrix.now) (mapped_lent (setup_of s matrix.now) secrets.now random.now phi.now random2.now needed g h g2 h2) []) }
+) -> Result<(), Refusal>
+    ensures { refused_by result ≡ refusal (table (setup_of s matrix.now) (mapped_lent (setup_of s matrix.now) secrets.now random.now phi.now random2.now needed g h g2 h2) []) }
 {
     let l = s.l as usize;
-    let a = dealing::inputs_refusal(s, matrix, secrets, random);
-    let b = scheme::or_size(a, phi.len(), l * l);
-    let c = scheme::or_size(b, random2.len(), (s.e as usize) * s.dim());
-    let d = or_buffers(c, needed, g, h, g2, h2);
-    let e = dealing::or_inputs(d, s, matrix, secrets, random);
-    let f = scheme::or_elements(e, s.p, phi);
-    scheme::or_elements(f, s.p, random2)
+    dealing::check_input_sizes(s, matrix, secrets, random)?;
+    scheme::check_size(phi.len(), l * l)?;
+    scheme::check_size(random2.len(), (s.e as usize) * s.dim())?;
+    check_buffers(needed, g, h, g2, h2)?;
+    dealing::check_input_elements(s, matrix, secrets, random)?;
+    scheme::check_elements(s.p, phi)?;
+    scheme::check_elements(s.p, random2)
 }
 
 // A holder's part of a dealing, and its part of the second dealing, whose array is the map of the first.
@@ -108,12 +107,12 @@ pub fn deal_mapped(
     h: &mut [u16],
     g2: &mut [u16],
     h2: &mut [u16],
-) -> Written
+) -> Result<(), Refusal>
     ensures result_value { paper_written result ≡ deal_mapped_call (setup_of s matrix.now) secrets.now random.now phi.now random2.now holder (buffers g.old h.old g2.old h2.old) }
     ensures h2_after { buffers g.new h.new g2.new h2.new ≡ deal_mapped_left (setup_of s matrix.now) secrets.now random.now phi.now random2.now holder (buffers g.old h.old g2.old h2.old) }
 {
     let d = s.dim();
-    let lent = mapped_refusal(
+    check_mapped(
         s,
         matrix,
         secrets,
@@ -125,18 +124,15 @@ pub fn deal_mapped(
         h.len(),
         g2.len(),
         h2.len(),
-    );
-    let refusal = base::or_when(lent, 5, s.n <= holder);
-    if refusal != 0 {
-        return Written::Refused(refusal);
-    }
+    )?;
+    base::refuse_if(s.n <= holder, Refusal::Range)?;
     let mut f = [0u16; 256];
     dealing::fill_dealt(s, secrets, random, &mut f);
     let mut f2 = [0u16; 256];
     fill_mapped(s, phi, random2, &f, &mut f2);
     dealing::write_part(s, matrix, &f, holder, g, h);
     dealing::write_part(s, matrix, &f2, holder, g2, h2);
-    Written::Done
+    Ok(())
 }
 
 // Every holder's part of both dealings.
@@ -151,12 +147,12 @@ pub fn deal_mapped_all(
     hs: &mut [u16],
     gs2: &mut [u16],
     hs2: &mut [u16],
-) -> Written
+) -> Result<(), Refusal>
     ensures result_value { paper_written result ≡ deal_mapped_all_call (setup_of s matrix.now) secrets.now random.now phi.now random2.now (buffers gs.old hs.old gs2.old hs2.old) }
     ensures hs2_after { buffers gs.new hs.new gs2.new hs2.new ≡ deal_mapped_all_left (setup_of s matrix.now) secrets.now random.now phi.now random2.now (buffers gs.old hs.old gs2.old hs2.old) }
 {
     let size = s.matrix_len();
-    let refusal = mapped_refusal(
+    check_mapped(
         s,
         matrix,
         secrets,
@@ -168,10 +164,7 @@ pub fn deal_mapped_all(
         hs.len(),
         gs2.len(),
         hs2.len(),
-    );
-    if refusal != 0 {
-        return Written::Refused(refusal);
-    }
+    )?;
     let d = s.dim();
     let n = s.n as usize;
     let mut f = [0u16; 256];
@@ -180,5 +173,5 @@ pub fn deal_mapped_all(
     fill_mapped(s, phi, random2, &f, &mut f2);
     parts::write_all(s.p, d, n, matrix, &f, gs, hs);
     parts::write_all(s.p, d, n, matrix, &f2, gs2, hs2);
-    Written::Done
+    Ok(())
 }

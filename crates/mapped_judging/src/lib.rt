@@ -4,15 +4,17 @@
 
 ghost use Rattle.std.specs.Prelude.{◌≡◌, [], ◌*◌, ◌<◌, ◌≤◌, length};
 ghost use Rattle.base.specs.Rules.{refusal};
+ghost use Rattle.base.specs.Refusals.{refused_by};
 ghost use Rattle.base.specs.Search.{first};
 ghost use Rattle.scheme.specs.Setup.{setup_of};
 ghost use Rattle.scheme.specs.Answers.{paper_judged};
 ghost use Rattle.scheme.specs.Dealing.{differs_in, map_holds, judgement_mapped};
 ghost use Rattle.scheme.specs.Calls.{judge_rules, judge_mapped_rules, judge_mapped_call};
 
-use scheme::{Judged, Judgement, Params};
+use base::Refusal;
+use scheme::{Judgement, Params};
 
-fn judge_mapped_refusal(
+fn check_judge_mapped(
     s: Params,
     matrix: &[u16],
     h: &[u16],
@@ -20,18 +22,18 @@ fn judge_mapped_refusal(
     phi: &[u16],
     h2: &[u16],
     values2: &[u16],
-) -> u16
-    ensures { result ≡ refusal (judge_mapped_rules (setup_of s matrix.now) h.now values.now phi.now h2.now values2.now) }
+) -> Result<(), Refusal>
+    ensures { refused_by result ≡ refusal (judge_mapped_rules (setup_of s matrix.now) h.now values.now phi.now h2.now values2.now) }
 {
     let l = s.l as usize;
-    let a = scheme::limits_and_matrix(s, matrix.len());
-    let b = judging::or_received_sizes(a, s, h, values);
-    let c = scheme::or_size(b, phi.len(), l * l);
-    let d = judging::or_received_sizes(c, s, h2, values2);
-    let e = scheme::or_elements(d, s.p, matrix);
-    let f = judging::or_received_elements(e, s.p, h, values);
-    let g = scheme::or_elements(f, s.p, phi);
-    judging::or_received_elements(g, s.p, h2, values2)
+    scheme::check_matrix_len(s, matrix.len())?;
+    judging::check_received_sizes(s, h, values)?;
+    scheme::check_size(phi.len(), l * l)?;
+    judging::check_received_sizes(s, h2, values2)?;
+    scheme::check_elements(s.p, matrix)?;
+    judging::check_received_elements(s.p, h, values)?;
+    scheme::check_elements(s.p, phi)?;
+    judging::check_received_elements(s.p, h2, values2)
 }
 
 // The lowest holder whose value differs from what is due in either dealing, or n where none does.
@@ -60,13 +62,11 @@ fn map_holds(s: Params, h: &[u16], phi: &[u16], h2: &[u16]) -> bool
     ensures { result ≡ map_holds (setup_of s []) h.now phi.now h2.now }
 {
     let l = s.l as usize;
-    let mut k = 0;
-    while k < l {
+    for k in 0..l {
         let due = judging::rows_product(s.p, l, phi, k, h, 0);
         if h2[k] != due {
             return false;
         }
-        k += 1;
     }
     true
 }
@@ -104,12 +104,9 @@ pub fn judge_mapped(
     phi: &[u16],
     h2: &[u16],
     values2: &[u16],
-) -> Judged
+) -> Result<Judgement, Refusal>
     ensures { paper_judged result ≡ judge_mapped_call (setup_of s matrix.now) h.now values.now phi.now h2.now values2.now }
 {
-    let refusal = judge_mapped_refusal(s, matrix, h, values, phi, h2, values2);
-    if refusal != 0 {
-        return Judged::Refused(refusal);
-    }
-    Judged::As(judgement_mapped(s, matrix, h, values, phi, h2, values2))
+    check_judge_mapped(s, matrix, h, values, phi, h2, values2)?;
+    Ok(judgement_mapped(s, matrix, h, values, phi, h2, values2))
 }

@@ -4,23 +4,25 @@
 
 ghost use Rattle.std.specs.Prelude.{◌≡◌, [], ◌≤◌, length, take};
 ghost use Rattle.base.specs.Rules.{refusal};
+ghost use Rattle.base.specs.Refusals.{refused_by};
 ghost use Rattle.base.specs.Search.{first};
 ghost use Rattle.scheme.specs.Setup.{setup_of};
 ghost use Rattle.scheme.specs.Answers.{paper_settled};
 ghost use Rattle.scheme.specs.Dealing.{said_reject, fate_of};
 ghost use Rattle.scheme.specs.Calls.{outcome_rules, outcome_call, outcome_left};
 
-use scheme::{Fate, Params, Settled};
+use base::Refusal;
+use scheme::{Fate, Params};
 
-fn outcome_refusal(s: Params, g: &[u16], verdicts: &[u16], shares: &[u16]) -> u16
-    ensures { result ≡ refusal (outcome_rules (setup_of s []) g.now verdicts.now shares.now) }
+fn check_outcome(s: Params, g: &[u16], verdicts: &[u16], shares: &[u16]) -> Result<(), Refusal>
+    ensures { refused_by result ≡ refusal (outcome_rules (setup_of s []) g.now verdicts.now shares.now) }
 {
-    let a = scheme::limits_refusal(s);
-    let b = scheme::or_size(a, g.len(), s.dim());
-    let c = scheme::or_size(b, verdicts.len(), s.n as usize);
-    let e = scheme::or_size(c, shares.len(), s.l as usize);
-    let f = scheme::or_elements(e, s.p, g);
-    base::or_when(f, 12, !base::all_below(verdicts, 2))
+    scheme::check_limits(s)?;
+    scheme::check_size(g.len(), s.dim())?;
+    scheme::check_size(verdicts.len(), s.n as usize)?;
+    scheme::check_size(shares.len(), s.l as usize)?;
+    scheme::check_elements(s.p, g)?;
+    base::refuse_if(!base::all_below(verdicts, 2), Refusal::NoVerdict)
 }
 
 // The lowest of n holders that said reject, or n where none did.
@@ -28,14 +30,12 @@ fn lowest_reject(n: u16, verdicts: &[u16]) -> u16
     requires { n ≤ length verdicts.now }
     ensures { result ≡ first (said_reject verdicts.now) n }
 {
-    let mut i: u16 = 0;
-    while i < n {
+    for i in 0..n {
         if verdicts[i as usize] != 1 {
             return i;
         }
-        i += 1;
     }
-    i
+    n
 }
 
 // What became of a dealing, from the n verdicts received.
@@ -57,27 +57,18 @@ fn keep_shares(g: &[u16], shares: &mut [u16])
     ensures { shares.new ≡ take (length shares.old) g.now }
 {
     let len = shares.len();
-    let mut b = 0;
-    while b < len {
-        shares[b] = g[b];
-        b += 1;
-    }
+    shares.copy_from_slice(&g[..len]);
 }
 
 // The outcome from the n verdicts received; where the dealing is kept, the first ℓ entries of the row part g are the shares.
-pub fn outcome(s: Params, g: &[u16], verdicts: &[u16], shares: &mut [u16]) -> Settled
+pub fn outcome(s: Params, g: &[u16], verdicts: &[u16], shares: &mut [u16]) -> Result<Fate, Refusal>
     ensures answer { paper_settled result ≡ outcome_call (setup_of s []) g.now verdicts.now shares.old }
     ensures left { shares.new ≡ outcome_left (setup_of s []) g.now verdicts.now shares.old }
 {
-    let refusal = outcome_refusal(s, g, verdicts, shares);
-    if refusal != 0 {
-        return Settled::Refused(refusal);
+    check_outcome(s, g, verdicts, shares)?;
+    let fate = fate(s, verdicts);
+    if let Fate::Kept = fate {
+        keep_shares(g, shares);
     }
-    match fate(s, verdicts) {
-        Fate::Aborted(i) => Settled::As(Fate::Aborted(i)),
-        Fate::Kept => {
-            keep_shares(g, shares);
-            Settled::As(Fate::Kept)
-        }
-    }
+    Ok(fate)
 }

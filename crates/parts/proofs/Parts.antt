@@ -4,24 +4,18 @@ use mathlib.Core.Path.{◌≡◌, refl, ap, ◌∙◌}
 use mathlib.Core.Bool.{true}
 use mathlib.Core.List.{List}
 use native.Mathlib.Nat.{mul-le-mul, mul-le-mul_right, div-add-mod'}
-use native.Mathlib.Decide.{dec_lt}
 use native.Mathlib.Omega.{arith}
-use borrow.Author.Tests.{lt-ltb, le-ltb}
-use lib.Dec.{ltb}
-use lib.ListN.{length, get_or, set, length-set}
-use lib.Seq.{get_or-set_same, get_or-set_other}
-use Rattle.base.specs.Choice.{pick}
+use lib.ListN.{length, get_or}
 use Rattle.base.specs.Fill.{tab, laid, filled}
-use Rattle.base.specs.Matrix.{entry, flat, Below}
-use Rattle.base.proofs.Choice.{either}
+use Rattle.base.specs.Matrix.{flat, Below}
 use Rattle.base.proofs.Fill.{get_d-tab, tab-ext, laid_none, laid-parts, flat-at, laid_filled}
-use Rattle.base.proofs.Matrix.{row_fits, entry-fits, below_set, below-tab, place_at}
+use Rattle.base.proofs.Matrix.{row_fits, entry-fits, below-tab, place_at}
 use Rattle.field.specs.Fields.{is_field}
 use Rattle.field.specs.Dot.{at, dot, along}
 use Rattle.field.proofs.Fields.{five-elim, field-five}
 use Rattle.field.proofs.Dot.{dot-step, dot-same, dot-comm, dot-le}
 use Rattle.lanes.proofs.Laws.{product_le}
-use Rattle.parts.specs.Inner.{line_entry, entry_g, PartRoom, AllRoom, past, lane, lane_entry, Column, Held}
+use Rattle.parts.specs.Inner.{line_entry, entry_g, PartRoom, AllRoom, past, lane, lane_entry, Held, EightRoom}
 
 -- ROOM
 -- F lies in the array
@@ -82,14 +76,6 @@ module _ (table : List ℕ) (a w : ℕ) (v : ℕ → ℕ) where
 pub reduced : (p : ℕ) (u : ℕ → ℕ) (sums entries : List ℕ) → sums ≡ tab 8 u → entries ≡ tab 8 (λ t. get_or sums t 0 % p) → (t : ℕ) → t < 8 → at entries t ≡ u t % p
 reduced p u sums entries e q t l = rw q (get_d-tab 8 (λ t. get_or sums t 0 % p) 0 t l ∙ ap (λ n. n % p) (rw e (get_d-tab 8 u 0 t l)))
 
--- some of those that are left, if any are, and no more than eight; eight, if some stay
-pub few-lanes : (left c : ℕ) → c ≡ pick (ltb left 8) left 8 → (c ≤ 8) × (c ≤ left) × (0 < left → 0 < c) × (c < left → c ≡ 8)
-few-lanes left c e = go (dec_lt left 8)
-  where
-    go : Dec (left < 8) → (c ≤ 8) × (c ≤ left) × (0 < left → 0 < c) × (c < left → c ≡ 8)
-    go (yes l) = let q = e ∙ ap (λ b. pick b left 8) (lt-ltb left 8 l) in (omega (arith, q), omega (arith, q), λ h. omega (arith, q), λ h. omega (arith, q))
-    go (no l) = let q = e ∙ ap (λ b. pick b left 8) (le-ltb left 8 (omega arith)) in (omega (arith, q), omega (arith, q), λ h. omega (arith, q), λ h. omega (arith, q))
-
 -- ENTRIES OF G IN LANES
 -- lane t of the rows of F from place b on is column b + t
 pub lane-of-g : (p d : ℕ) (m F : List ℕ) (i b t : ℕ) → dot d (lane F b d t) (along m (i * d) 1) % p ≡ entry_g p d m F i (b + t)
@@ -99,46 +85,20 @@ lane-of-g p d m F i b t =
     (dot-comm d (lane F b d t) (along m (i * d) 1)
     ∙ dot-same d _ _ _ _ (λ k l. ap (λ n. get_or m n 0) (omega arith)) (λ k l. ap (λ n. get_or F n 0) (omega arith)))
 
--- eight lanes from an entry on lie in the array
-pub lanes_fit : (d b k : ℕ) → d ≤ 16 → b < d → b % 8 ≡ 0 → k < d → b + k * d + 8 ≤ 256
-lanes_fit d b k h l z m = omega (arith, mul-le-mul {n₁ = k} {m₁ = d} {n₂ = 15} {m₂ = 16} (omega arith) h)
-
--- COLUMNS
-module _ (c : ℕ) (u : ℕ → ℕ) (a : ℕ) (x : List ℕ) where
-  pub column-none : Column 0 c u a x x
-  column-none = record { size = refl; written = λ t l. absurd (omega arith); kept = λ k l. refl; small = λ h. h }
-
-  pub column-lane : (r : ℕ) (l : List ℕ) → a + r < length x → u r < 257 → Column r c u a x l → Column (r + 1) c u a x (set l (a + r) (u r))
-  column-lane r l f s w =
-      record {
-        size = length-set l (a + r) _ ∙ w.size;
-        written = λ t h m.
-            either t r (at (set l (a + r) (u r)) (a + t) ≡ u t)
-            (λ q. rw q (get_or-set_same l (a + r) _ 0 (omega (arith, w.size))))
-            (λ q. get_or-set_other l (a + r) (a + t) _ 0 (λ z. q (omega arith)) ∙ w.written t (omega (arith, q)) m);
-        kept = λ k h. get_or-set_other l (a + r) k _ 0 (λ z. absurd (omega arith)) ∙ w.kept k h;
-        small = λ h. below_set 257 l (a + r) (u r) s (w.small h);
-      }
-
-  pub column-left : (r : ℕ) (l : List ℕ) → c ≤ r → Column r c u a x l → Column (r + 1) c u a x l
-  column-left r l h w = record { size = w.size; written = λ t q m. w.written t (omega arith) m; kept = w.kept; small = w.small }
-
-module _ (d : ℕ) (m : List ℕ) (i c : ℕ) where
-  pub held_none : (l : List ℕ) → length l ≡ 128 → Below 257 l → Held 0 d m i c l
-  held_none l e h = record { size = e; small = h; right = λ t k l q. absurd (omega arith) }
-
-  pub held-column : (r : ℕ) (x l : List ℕ) → c ≤ 8 → Held r d m i c x → Column 8 c (along m (i * d + r) d) (8 * r) x l → Held (r + 1) d m i c l
-  held-column r x l few h w =
-      record {
-        size = w.size ∙ h.size;
-        small = w.small h.small;
-        right = λ t k q s.
-            either k r (lane l 0 8 t k ≡ entry d m (i + t) k)
-            (λ z. rw z (ap (at l) (omega arith) ∙ w.written t (omega arith) q ∙ ap (λ n. get_or m n 0) (omega arith)))
-            (λ z. w.kept (0 + k * 8 + t) (omega (arith, z)) ∙ h.right t k q (omega (arith, z)));
-      }
-
 -- EIGHT HOLDERS
+-- room for the parts of c holders from holder i on
+pub eight_room : (p d n : ℕ) (m F gs hs out columns : List ℕ) (i c a s : ℕ) → AllRoom p d n m F gs hs → Below 257 F → Held d d m i c columns → c ≤ 8 → i + c ≤ n
+    → length out ≡ n * d → ((j k : ℕ) → j < d → k < d → j * a + k * s < 256) → EightRoom p d columns c F a s out (i * d)
+eight_room p d n m F gs hs out columns i c a s r small held few within e inside =
+    record {
+      above = r.above;
+      few = (r.small, few);
+      size = held.size;
+      small = (held.small, small);
+      lines = λ j k l q. omega (arith, inside j k l q, r.square);
+      fits = omega (arith, rows_fit d i c n within, e);
+    }
+
 module _ (p d : ℕ) (m F : List ℕ) (i c : ℕ) (columns : List ℕ) (held : Held d d m i c columns) where
   lane-line : (a s t j : ℕ) → t < c → lane_entry p d columns F a s t j ≡ line_entry p d m F a s (i + t) j
   unfolding lane_entry line_entry

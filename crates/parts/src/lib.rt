@@ -2,8 +2,7 @@
 // worked out and written before its g, and no sum, lane or pass holds entries of both. The work neither branches on nor indexes by an entry.
 #![tactic(auto)]
 
-ghost use Rattle.std.specs.Prelude.{◌≡◌, true, ℕ, ◌+◌, ◌*◌, ◌%◌, ◌<◌, ◌≤◌, ltb, length, get_or};
-ghost use Rattle.base.specs.Choice.{pick};
+ghost use Rattle.std.specs.Prelude.{◌≡◌, true, ℕ, ◌+◌, ◌*◌, ◌%◌, ◌<◌, ◌≤◌, length, get_or};
 ghost use Rattle.base.specs.Fill.{tab, filled, laid, Put};
 ghost use Rattle.base.specs.Matrix.{flat, Below};
 ghost use Rattle.field.specs.Fields.{is_field};
@@ -15,6 +14,7 @@ use field::Field;
 // ONE HOLDER
 // The products of holder i's row and the lines of F, into `out` from place `at` on. Line j starts at j * apart and goes on by `step`: the rows of F start d
 // apart, and along them the products are h = F m_i; its columns start 1 apart and go on by d, and along them the products are g = m_i F.
+#[tactic(auto, unfolding(base::specs::Fill::laid, crate::specs::Inner::line_entry))]
 pub fn write_one(
     p: u16,
     d: usize,
@@ -29,30 +29,27 @@ pub fn write_one(
     requires { PartRoom p d matrix.now i f.now apart step out.old at }
     ensures { out.new ≡ laid (line_entry p d matrix.now f.now apart step i) at d out.old }
 {
-    let mut j = 0;
-    while j < d {
+    for j in 0..d {
         out[at + j] = field::dot_product(p, d, matrix, i * d, f, j * apart, step);
-        j += 1;
     }
 }
 
 // LANES
 // Where entries are at most 256, a sum of sixteen products fits in 32 bits, and the compiler works on eight of them at once, each in a lane.
 // Eight remainders.
+#[tactic(auto, unfolding(base::specs::Fill::tab, base::specs::Fill::tab_from, base::specs::Fill::filled))]
 fn remainders8(p: u16, sums: [u32; 8]) -> [u16; 8]
     requires { 0 < p }
     ensures { result ≡ tab 8 (λ t. get_or sums t 0 % p) }
 {
     let mut r = [0u16; 8];
-    let mut t = 0;
-    while t < 8 {
-        r[t] = (sums[t] % (p as u32)) as u16;
-        t += 1;
+    for t in 0..8 {
+        r[t] = (sums[t] % u32::from(p)) as u16;
     }
     r
 }
 
-// Eight remainders, without a division: the modulus is a constant in each arm.
+// Eight remainders, without a division: the modulus is a constant in each arm but the last, which is why it is an argument and no const parameter.
 fn residues8(p: u16, sums: [u32; 8]) -> [u16; 8]
     requires { 0 < p }
     ensures { result ≡ tab 8 (λ t. get_or sums t 0 % p) }
@@ -64,13 +61,6 @@ fn residues8(p: u16, sums: [u32; 8]) -> [u16; 8]
         Field::P257 => remainders8(257, sums),
         _ => remainders8(p, sums),
     }
-}
-
-// How many of those that are left go into eight lanes.
-fn lanes_for(left: usize) -> usize
-    ensures { result ≡ pick (ltb left 8) left 8 }
-{
-    if left < 8 { left } else { 8 }
 }
 
 // The products of each lane's column and the line of x that starts at `start` and goes on by `step`. The lanes stand in a table of d rows, `wide` apart
@@ -91,11 +81,9 @@ fn products(
     ensures { result ≡ tab 8 (λ t. dot d (lane table.now at wide t) (along x.now start step)) }
 {
     let mut sums = [0u32; 8];
-    let mut k = 0;
-    while k < d {
+    for k in 0..d {
         let next = lanes::add8(sums, x[start + k * step], table, at + k * wide);
         sums = next;
-        k += 1;
     }
     sums
 }
@@ -106,10 +94,8 @@ fn put(d: usize, count: usize, entries: [u16; 8], out: &mut [u16], at: usize)
     requires by_index { (t : ℕ) → t < count → at + t * d < length out.old }
     ensures { Put d count at entries out.old out.new }
 {
-    let mut t = 0;
-    while t < count {
+    for t in 0..count {
         out[at + t * d] = entries[t];
-        t += 1;
     }
 }
 
@@ -128,9 +114,10 @@ fn write_g_in_lanes(
     requires below_2 { Below 257 f.now }
     ensures { out.new ≡ laid (entry_g p d matrix.now f.now i) at d out.old }
 {
+    // A `while`: the last step is shorter where d is no multiple of eight.
     let mut b = 0;
     while b < d {
-        let count = lanes_for(d - b);
+        let count = (d - b).min(8);
         let sums = products(d, f, b, d, matrix, i * d, 1);
         put(1, count, residues8(p, sums), out, at + b);
         b += count;
@@ -154,15 +141,13 @@ fn write_each(
     ensures gs_after { gs.new ≡ past d (entry_g p d matrix.now f.now) first n gs.old }
     ensures hs_after { hs.new ≡ past d (entry_h p d matrix.now f.now) first n hs.old }
 {
-    let mut i = first;
-    while i < n {
+    for i in first..n {
         write_one(p, d, matrix, i, f, d, 1, hs, i * d);
         if 257 < p {
             write_one(p, d, matrix, i, f, 1, d, gs, i * d);
         } else {
             write_g_in_lanes(p, d, matrix, i, f, gs, i * d);
         }
-        i += 1;
     }
 }
 
@@ -173,12 +158,10 @@ fn column(d: usize, matrix: &[u16], from: usize, count: usize, columns: &mut [u1
     requires by_index { (t : ℕ) → t < count → from + t * d < length matrix.now }
     ensures { Column 8 count (along matrix.now from d) at columns.old columns.new }
 {
-    let mut t = 0;
-    while t < 8 {
+    for t in 0..8 {
         if t < count {
             columns[at + t] = matrix[from + t * d];
         }
-        t += 1;
     }
 }
 
@@ -189,10 +172,8 @@ fn fill_columns(d: usize, matrix: &[u16], i: usize, count: usize, columns: &mut 
     requires below_2 { Below 257 columns.old }
     ensures { Held d d matrix.now i count columns.new }
 {
-    let mut k = 0;
-    while k < d {
+    for k in 0..d {
         column(d, matrix, i * d + k, count, columns, 8 * k);
-        k += 1;
     }
 }
 
@@ -211,11 +192,9 @@ fn write_eight(
     requires { EightRoom p d columns.now count f.now apart step out.old at }
     ensures { out.new ≡ laid (flat d (lane_entry p d columns.now f.now apart step)) at (count * d) out.old }
 {
-    let mut j = 0;
-    while j < d {
+    for j in 0..d {
         let sums = products(d, columns, 0, 8, f, j * apart, step);
         put(d, count, residues8(p, sums), out, at + j);
-        j += 1;
     }
 }
 
@@ -235,9 +214,10 @@ fn write_eights(
     ensures gs_after { gs.new ≡ filled (flat d (entry_g p d matrix.now f.now)) (n * d) gs.old }
     ensures hs_after { hs.new ≡ filled (flat d (entry_h p d matrix.now f.now)) (n * d) hs.old }
 {
+    // A `while`: it ends where four or fewer are left, and they go on from there.
     let mut i = 0;
     while 4 < n - i {
-        let count = lanes_for(n - i);
+        let count = (n - i).min(8);
         let mut columns = [0u16; 128];
         fill_columns(d, matrix, i, count, &mut columns);
         write_eight(p, d, &columns, count, f, d, 1, hs, i * d);

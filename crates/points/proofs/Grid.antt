@@ -1,4 +1,4 @@
--- The laws of the points matrix as it is worked out, and of the table of its call without the last rule.
+-- The laws of the points matrix as it is worked out.
 use Prim.Native.Nat.{ℕ, zero, suc, ◌+◌, ◌*◌, ◌/◌, ◌%◌, ◌≤◌, ◌<◌}
 use mathlib.Core.Path.{◌≡◌, refl, ◌∙◌}
 use mathlib.Core.Bool.{Bool, true}
@@ -69,16 +69,3 @@ module _ (p d n : ℕ) (z : List (List ℕ)) (small : d ≤ 16) (room : n ≤ le
 pub largest : (p : ℕ) → is_field p ≡ true → p ≢ 2 → p ≢ 7 → p ≢ 251 → p ≢ 257 → p ≡ 65521
 largest p t i j k l =
     ⊎_elim (λ e. absurd (i e)) (⊎_elim (λ e. absurd (j e)) (⊎_elim (λ e. absurd (k e)) (⊎_elim (λ e. absurd (l e)) (λ e. e)))) (field-five p t)
-
--- a number that stands is not lowered by a later rule
-pub not-lowered : (r k : ℕ) (b : Bool) → r ≤ or_when r k b
-not-lowered zero k b = omega arith
-not-lowered (suc r) k b = omega arith
-
-pub sizes-ok : (S : Setup) → refusal (setup_rules S (length S.M)) ≡ 0 → Limits S × (length S.M ≡ S.n * dim S)
-sizes-ok S e = let r = in_order S (room (length S.M) (S.n * dim S) ∷ []) [] tt e in (r.limits, r.lent.0)
-
--- the rules up to 3, and then 15, are the whole table
-pub whole-table : (S : Setup) (early r d : ℕ) → early ≡ refusal (setup_rules S (length S.M)) → d ≡ dim S → r ≡ or_when early 15 (ltb S.p (d + S.n))
-    → r ≡ refusal (points_rules S)
-whole-table S early r d a b c = rw (c, a, b) refl

@@ -4,19 +4,19 @@
 
 ghost use Rattle.std.specs.Prelude.{◌≡◌, true, [], ◌*◌, ◌%◌, ◌<◌, ◌≤◌, eqb, length};
 ghost use Rattle.base.specs.Choice.{pick};
-ghost use Rattle.base.specs.Rules.{refusal, given, answer_by};
 ghost use Rattle.base.specs.Fill.{tab, filled};
 ghost use Rattle.base.specs.Matrix.{flat};
 ghost use Rattle.field.specs.Prime.{Prime, Inverses};
-ghost use Rattle.field.specs.Fields.{is_field, order_of};
+ghost use Rattle.field.specs.Fields.{is_field};
 ghost use Rattle.polynomial.specs.Polynomial.{minus, basis, point};
 ghost use Rattle.scheme.specs.Setup.{setup_of};
 ghost use Rattle.scheme.specs.Answers.{paper_written};
 ghost use Rattle.scheme.specs.Calls.{points_call, points_left};
 ghost use Rattle.points.specs.Inner.{weight_of, weights_of, points_row, row_entry, HasRows};
 
-use field::{Chosen, Field};
-use scheme::{Params, Written};
+use base::Refusal;
+use field::Field;
+use scheme::Params;
 
 // One factor of a basis at x: x - t modulo p, and 1 for the node j that is left out.
 fn factor(p: u16, j: usize, x: usize, t: usize) -> u16
@@ -26,7 +26,7 @@ fn factor(p: u16, j: usize, x: usize, t: usize) -> u16
     if t == j {
         return 1;
     }
-    field::residue(p, (x + (p as usize - 1) * t) as u64)
+    field::residue(p, (x + (usize::from(p) - 1) * t) as u64)
 }
 
 // The basis of node j at x over the nodes 0 to d - 1, reduced after each factor.
@@ -35,10 +35,8 @@ fn basis_at(p: u16, d: usize, j: usize, x: usize) -> u16
     ensures { result ≡ basis p d j (λ t. t) x % p }
 {
     let mut acc: u16 = 1;
-    let mut t = 0;
-    while t < d {
+    for t in 0..d {
         acc = field::product(p, acc, factor(p, j, x, t));
-        t += 1;
     }
     acc
 }
@@ -61,10 +59,8 @@ fn weights(p: u16, d: usize) -> [u16; 16]
 {
     let table = field::inverses();
     let mut entries = [0u16; 16];
-    let mut j = 0;
-    while j < d {
+    for j in 0..d {
         entries[j] = weight(&table, p, d, j);
-        j += 1;
     }
     entries
 }
@@ -83,23 +79,19 @@ fn row(p: u16, d: usize, i: usize, by: &[u16; 16]) -> [u16; 16]
     ensures { result ≡ points_row p d i }
 {
     let mut entries = [0u16; 16];
-    let mut j = 0;
-    while j < d {
+    for j in 0..d {
         entries[j] = point(p, d, i, j, by[j]);
-        j += 1;
     }
     entries
 }
 
-// The n rows of the points matrix, into the lent rows: the loop.
-fn fill_rows_by(p: u16, d: usize, n: usize, by: &[u16; 16], rows: &mut [[u16; 16]])
-    requires { (1 < p) × (d ≤ 16) × (n ≤ 32) × (by.now ≡ weights_of p d) × (length rows.old ≡ 32) }
-    ensures { rows.new ≡ filled (points_row p d) n rows.old }
+// The n rows of the points matrix modulo P, into the lent rows: the loop.
+fn fill_rows_by<const P: u16>(d: usize, n: usize, by: &[u16; 16], rows: &mut [[u16; 16]])
+    requires { (1 < P) × (d ≤ 16) × (n ≤ 32) × (by.now ≡ weights_of P d) × (length rows.old ≡ 32) }
+    ensures { rows.new ≡ filled (points_row P d) n rows.old }
 {
-    let mut i = 0;
-    while i < n {
-        rows[i] = row(p, d, i, by);
-        i += 1;
+    for i in 0..n {
+        rows[i] = row(P, d, i, by);
     }
 }
 
@@ -110,11 +102,11 @@ fn fill_rows(p: u16, d: usize, n: usize, by: &[u16; 16], rows: &mut [[u16; 16]])
     ensures { rows.new ≡ filled (points_row p d) n rows.old }
 {
     match p {
-        Field::P2 => fill_rows_by(2, d, n, by, rows),
-        Field::P7 => fill_rows_by(7, d, n, by, rows),
-        Field::P251 => fill_rows_by(251, d, n, by, rows),
-        Field::P257 => fill_rows_by(257, d, n, by, rows),
-        _ => fill_rows_by(65521, d, n, by, rows),
+        Field::P2 => fill_rows_by::<2>(d, n, by, rows),
+        Field::P7 => fill_rows_by::<7>(d, n, by, rows),
+        Field::P251 => fill_rows_by::<251>(d, n, by, rows),
+        Field::P257 => fill_rows_by::<257>(d, n, by, rows),
+        _ => fill_rows_by::<65521>(d, n, by, rows),
     }
 }
 
@@ -124,10 +116,8 @@ fn write_flat(d: usize, n: usize, rows: &[[u16; 16]], matrix: &mut [u16])
     requires has_rows { HasRows d n rows.now }
     ensures { matrix.new ≡ filled (flat d (row_entry rows.now)) (n * d) matrix.old }
 {
-    let mut i = 0;
-    while i < n {
+    for i in 0..n {
         base::copy(matrix, i * d, &rows[i], 0, d);
-        i += 1;
     }
 }
 
@@ -143,40 +133,17 @@ fn write_points(p: u16, d: usize, n: usize, matrix: &mut [u16])
     write_flat(d, n, &rows, matrix);
 }
 
-// What a call that writes answers by its refusal.
-fn written(refusal: u16) -> Written
-    ensures { paper_written result ≡ answer_by refusal (given []) }
-{
-    if refusal != 0 {
-        return Written::Refused(refusal);
-    }
-    Written::Done
-}
-
-// The points matrix over a field into the lent matrix. Nothing is written before the last rule, 15, is known not to apply.
-fn points_in(field: Field, s: Params, matrix: &mut [u16]) -> Written
-    requires { order_of field ≡ s.p }
+// The points matrix into the lent matrix. Nothing is written before the last rule, 15, is known not to apply.
+#[tactic(auto, unfolding(scheme::specs::Points::points_matrix))]
+pub fn points(s: Params, matrix: &mut [u16]) -> Result<(), Refusal>
     ensures result_value { paper_written result ≡ points_call (setup_of s matrix.old) }
     ensures matrix_after { matrix.new ≡ points_left (setup_of s matrix.old) }
 {
-    let p = field.order();
+    let p = Field::new(s.p)?.order();
+    scheme::check_matrix_len(s, matrix.len())?;
     let d = s.dim();
-    let early = scheme::limits_and_matrix(s, matrix.len());
-    let refusal = base::or_when(early, 15, (p as usize) < d + (s.n as usize));
-    let answer = written(refusal);
-    if refusal == 0 {
-        write_points(p, d, s.n as usize, matrix);
-    }
-    answer
-}
-
-// The points matrix into the lent matrix.
-pub fn points(s: Params, matrix: &mut [u16]) -> Written
-    ensures result_value { paper_written result ≡ points_call (setup_of s matrix.old) }
-    ensures matrix_after { matrix.new ≡ points_left (setup_of s matrix.old) }
-{
-    match Field::new(s.p) {
-        Chosen::Of(field) => points_in(field, s, matrix),
-        Chosen::NoField => Written::Refused(1),
-    }
+    let n = s.n as usize;
+    base::refuse_if((p as usize) < d + n, Refusal::TooFewPoints)?;
+    write_points(p, d, n, matrix);
+    Ok(())
 }

@@ -29,12 +29,10 @@ pub fn all_solved(
     requires sides_bound { pivots + sides ≤ width }
     ensures { result ≡ flat_all_solved rows width pivots sides (buffers a.now used.now) }
 {
-    let mut q = 0;
-    while q < sides {
+    for q in 0..sides {
         if unsolved(a, used, rows, width, pivots + q) < rows {
             return false;
         }
-        q += 1;
     }
     true
 }
@@ -45,14 +43,12 @@ fn pivot_row(used: &[u16], rows: usize, q: usize) -> usize
     ensures { result ≡ pivot_row rows (at used.now) q }
 {
     let mark = (q + 1) as u16;
-    let mut i = 0;
-    while i < rows {
+    for i in 0..rows {
         if used[i] == mark {
             return i;
         }
-        i += 1;
     }
-    i
+    rows
 }
 
 // Entry j of the vector that column b shows.
@@ -71,10 +67,8 @@ pub fn solution(a: &[u16], used: &[u16], rows: usize, width: usize, b: usize, x:
     requires b_lt_width { (b < width) × (length x.old ≤ 64) }
     ensures { x.new ≡ tab (length x.old) (flat_shown rows width b (buffers a.now used.now)) }
 {
-    let mut place = 0;
-    while place < x.len() {
-        x[place] = shown(a, used, rows, width, b, place);
-        place += 1;
+    for (place, entry) in x.iter_mut().enumerate() {
+        *entry = shown(a, used, rows, width, b, place);
     }
 }
 
@@ -83,14 +77,10 @@ fn alone(a: &[u16], t: usize, pivots: usize, q: usize) -> bool
     requires { t + pivots ≤ length a.now }
     ensures { result ≡ alone pivots (λ j. get_or a.now (t + j) 0) q }
 {
-    let mut j = 0;
-    while j < pivots {
-        if q != j {
-            if a[t + j] != 0 {
-                return false;
-            }
+    for j in 0..pivots {
+        if q != j && a[t + j] != 0 {
+            return false;
         }
-        j += 1;
     }
     true
 }

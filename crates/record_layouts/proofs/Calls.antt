@@ -1,27 +1,24 @@
 -- What an accepted reader says of what it was lent and of the record: the lengths that the code relies on, and that an SU read is a setup.
 use mathlib.Core.Path.{◌≡◌, refl, sym, ap, ◌∙◌}
-use mathlib.Core.Bool.{Bool, false, not}
+use mathlib.Core.Bool.{Bool, false}
 use mathlib.Core.List.{List, [], ◌∷◌, ◌++◌}
-use Prim.Native.Nat.{ℕ, zero, suc, ◌+◌, ◌*◌, ◌≤◌, ◌<◌}
+use Prim.Native.Nat.{ℕ, zero, suc, ◌+◌, ◌*◌, ◌≤◌}
 use native.Mathlib.Omega.{arith}
 use native.Mathlib.Nat.{add-zero, mul-le-mul}
 use lib.Dec.{ltb, T}
 use lib.ListN.{length}
-use borrow.Author.Tests.{eq-eqb, ne_eqb, lt-ltb, le-ltb, ltb-false}
-use Rattle.base.specs.Rules.{Rule, ◌when◌, or_when, refusal_from, refusal}
-use Rattle.base.specs.Matrix.{all_below}
+use borrow.Author.Tests.{ltb-false}
+use Rattle.base.specs.Rules.{Rule, ◌when◌, refusal_from, refusal}
 use Rattle.base.proofs.Rules.{positive, clear, clear-left, joined, stays, refusal-after}
-use Rattle.scheme.specs.declared.Params.{Params}
 use Rattle.scheme.specs.Setup.{Setup, dim, Limits, IsSetup}
 use Rattle.scheme.specs.Calls.{Lent, limits, size, beyond_field}
 use Rattle.scheme.proofs.Calls.{limits-are, limits-pos, size_is, size-clear, vec_of, InOrder, in_order}
-use Rattle.record_words.specs.Words.{word_at, words_at}
 use Rattle.record_words.proofs.Words.{length-words, below-words, every-none}
-use Rattle.record_layouts.specs.Records.{due, Layout, mark_su, setup_size, setup_at, due_setup, read_setup_rules, read_matrix_rules, params_at, lists_rules, standing_rules, read_rules}
-use Rattle.record_layouts.specs.Records.{dealing_size, dealing_at, dealing_g, parts_h, dealing_h, dealing_faults, parts_layout_of, dealing_layout, dealing_lent, read_dealing_rules}
-use Rattle.record_layouts.specs.Records.{zero_size, zero_layout, zero_lent, read_zero_rules, mark_df, mapped_size, mapped_layout, mapped_lent, read_mapped_rules}
-use Rattle.record_layouts.specs.Inner.{list_rules, parts_rules}
-use Rattle.record_layouts.proofs.Layouts.{Lawful, dealing-lawful, zero_lawful, mapped-lawful}
+use Rattle.record_layouts.specs.Records.{due, Layout, setup_size, setup_at, due_setup, read_setup_rules, read_matrix_rules, standing_rules, read_rules}
+use Rattle.record_layouts.specs.Records.{dealing_at, dealing_g, parts_h, dealing_faults, parts_layout_of}
+use Rattle.record_layouts.specs.Records.{zero_size, zero_layout, zero_lent, read_zero_rules, mapped_size, mapped_layout, mapped_lent, read_mapped_rules}
+use Rattle.record_layouts.specs.Inner.{parts_rules}
+use Rattle.record_layouts.proofs.Layouts.{Lawful, zero_lawful, mapped-lawful}
 
 -- a rule that does not hold leaves what stands
 pub passed_over : (r k : ℕ) (l : List Rule) → refusal_from r ((k when false) ∷ l) ≡ refusal_from r l
@@ -44,47 +41,7 @@ matrix-small S L = mul-le-mul {n₁ = S.n} {m₁ = dim S} {n₂ = 32} {m₂ = 16
 pub map-small : (S : Setup) → Limits S → S.l * S.l ≤ 64
 map-small S L = mul-le-mul {n₁ = S.l} {m₁ = S.l} {n₂ = 8} {m₂ = 8} L.secret.1 L.secret.1
 
--- THE START OF A RECORD: which of the rules of its mark and its length applies
-module _ (mark needed : ℕ) (s : List ℕ) where
-  pub due-cut : length s < 2 → 3 ≡ refusal (due mark needed s)
-  due-cut l = simp (lt-ltb (length s) 2 l)
-
-  pub due-other : 2 ≤ length s → (word_at s 0 ≡ mark → ⊥) → 8 ≡ refusal (due mark needed s)
-  due-other l n = simp (le-ltb (length s) 2 l, ne_eqb (word_at s 0) mark n)
-
-  pub due-short : 2 ≤ length s → word_at s 0 ≡ mark → length s < needed → 3 ≡ refusal (due mark needed s)
-  due-short l e m = simp (le-ltb (length s) 2 l, eq-eqb (word_at s 0) mark e, lt-ltb (length s) needed m)
-
-  pub due-whole : 2 ≤ length s → word_at s 0 ≡ mark → needed ≤ length s → 0 ≡ refusal (due mark needed s)
-  due-whole l e m = simp (le-ltb (length s) 2 l, eq-eqb (word_at s 0) mark e, le-ltb (length s) needed m)
-
-  pub due-length : refusal (due mark needed s) ≡ 0 → needed ≤ length s
-  due-length e = ltb-false (length s) needed (clear (due mark needed s) tt e).1.1.0
-
 -- SU
--- a number that the mark or the limits give stays; past them the length, the lent matrix and the entries decide
-module _ (s : List ℕ) (k : ℕ) where
-  abbrev pub after_limits : List Rule
-  after_limits = (3 when ltb (length s) (setup_size (setup_at s))) ∷ size k ((setup_at s).n * dim (setup_at s)) ∷ beyond_field (setup_at s).p (setup_at s).M ∷ []
-
-  pub by-due : (a : ℕ) → a ≡ refusal (due mark_su 10 s) → (a ≡ 0 → ⊥) → a ≡ refusal (read_matrix_rules s k)
-  by-due a e n = e ∙ stays (refusal (due mark_su 10 s)) (limits (setup_at s) ++ after_limits) (λ z. n (e ∙ z))
-
-  pub by-limits : refusal (due mark_su 10 s) ≡ 0 → (a : ℕ) → a ≡ refusal (limits (setup_at s)) → (a ≡ 0 → ⊥) → a ≡ refusal (read_matrix_rules s k)
-  by-limits d a e n =
-      e ∙ stays (refusal (limits (setup_at s))) after_limits (λ z. n (e ∙ z))
-      ∙ sym (refusal-after (due mark_su 10 s) (limits (setup_at s) ++ after_limits) (clear (due mark_su 10 s) tt d))
-
-  pub past-limits : refusal (due mark_su 10 s) ≡ 0 → refusal (limits (setup_at s)) ≡ 0 → refusal (read_matrix_rules s k) ≡ refusal after_limits
-  past-limits d e =
-      refusal-after (due mark_su 10 s) (limits (setup_at s) ++ after_limits) (clear (due mark_su 10 s) tt d)
-      ∙ refusal-after (limits (setup_at s)) after_limits (clear (limits (setup_at s)) tt e)
-
-  -- a whole record and a lent matrix of the length needed: the entries decide, as they are read with the numbers x and the length n
-  pub by_entries : (x : Params) (n r : ℕ) → x ≡ params_at s → n ≡ (setup_at s).n * dim (setup_at s) → setup_size (setup_at s) ≤ length s → k ≡ n
-      → r ≡ or_when 0 4 (not (all_below x.p (words_at s 5 n))) → r ≡ refusal after_limits
-  by_entries x n r e f w g h = rw (h, e, f) (simp (le-ltb (length s) (setup_size (setup_at s)) w, eq-eqb k ((setup_at s).n * dim (setup_at s)) (g ∙ f)))
-
 -- an SU that is not refused is a setup, and it stands there whole
 pub setup-read : (s : List ℕ) → refusal (read_setup_rules s) ≡ 0 → IsSetup (setup_at s) × (setup_size (setup_at s) ≤ length s)
 setup-read s e =
@@ -112,16 +69,6 @@ matrix-room s k e =
     (size_is k _ r.1.0, ltb-false (length s) (setup_size (setup_at s)) r.0)
 
 -- DL, DZ AND DF
--- a whole record: its entries decide, as they are read with the length d of g
-pub by-lists : (mark k more : ℕ) (S : Setup) (s : List ℕ) (d b c e : ℕ) → refusal (due mark (6 + 2 * (dim S + k + more)) s) ≡ 0 → d ≡ dim S
-    → b ≡ or_when 0 4 (not (all_below S.p (words_at s 3 d))) → c ≡ or_when b 4 (not (all_below S.p (words_at s (3 + d) k)))
-    → e ≡ or_when c 4 (not (all_below S.p (words_at s (3 + d + k) more)))
-    → e ≡ refusal (list_rules mark k more S s)
-by-lists mark k more S s d b c e z f i j l =
-    let whole = due mark (6 + 2 * (dim S + k + more)) s in
-    rw (l, j, i, f)
-    (sym (refusal-after whole (beyond_field S.p (dealing_g S s) ∷ beyond_field S.p (parts_h k S s) ∷ beyond_field S.p (words_at s (3 + dim S + k) more) ∷ []) (clear whole tt z)))
-
 -- with no elements behind h these are the rules of DL and of DZ
 pub none-behind : (mark : ℕ) (size many : Setup → ℕ) (S : Setup) (s : List ℕ) → 6 + 2 * (dim S + many S) ≡ size S
     → refusal (parts_rules mark (many S) 0 S s) ≡ refusal (standing_rules (parts_layout_of mark size many) S s)
@@ -132,31 +79,12 @@ none-behind mark size many S s e =
     rw (add-zero (dim S + many S), e, b)
     (joined 0 before ((4 when false) ∷ after) ∙ passed_over (refusal before) 4 after ∙ sym (joined 0 before after))
 
--- with ℓ * ℓ elements behind h they are those of DF
-module _ (S : Setup) (s : List ℕ) where
-  abbrev map_to : ℕ → ℕ → List Rule
-  map_to n i =
-      due mark_df n s ++ (beyond_field S.p (dealing_g S s) ∷ beyond_field S.p (dealing_h S s) ∷ beyond_field S.p (words_at s i (S.l * S.l)) ∷ [])
-
-  pub map-lists-behind : refusal (list_rules mark_df (dim S) (S.l * S.l) S s) ≡ refusal (lists_rules mapped_layout S s)
-  map-lists-behind =
-      ap (λ n. refusal (map_to n (3 + dim S + dim S))) (omega arith) ∙ ap (λ i. refusal (map_to (mapped_size S) i)) (omega arith)
-
-  pub map-parts-behind : refusal (parts_rules mark_df (dim S) (S.l * S.l) S s) ≡ refusal (standing_rules mapped_layout S s)
-  map-parts-behind =
-      let after = dealing_faults S (dealing_at s) in
-      ap (λ n. refusal (map_to n (3 + dim S + dim S) ++ after)) (omega arith) ∙ ap (λ i. refusal (map_to (mapped_size S) i ++ after)) (omega arith)
-
 -- a reader that is not refused: all that is lent is as needed, and the record stands there whole
 read-room : {A : Type 0} (L : Layout A) (W : Lawful A L) (S : Setup) (lent : List Lent) (s : List ℕ) → refusal (read_rules L S lent s) ≡ 0
     → InOrder S.p lent × (L.size S ≤ length s)
 read-room L W S lent s e =
     let r = in_order S lent (standing_rules L S s) (W.positive-read S (L.at S s)) e in
     (r.lent, ltb-false (length s) (L.size S) r.own.1.1.0)
-
-pub parts-room : (S : Setup) (s : List ℕ) (j k : ℕ) → refusal (read_dealing_rules S s j k) ≡ 0
-    → (j ≡ dim S) × (k ≡ dim S) × (dealing_size S ≤ length s)
-parts-room S s j k e = let r = read-room dealing_layout dealing-lawful S (dealing_lent S j k) s e in (r.0.0, r.0.1.0, r.1)
 
 pub zero_room : (S : Setup) (s : List ℕ) (j k : ℕ) → refusal (read_zero_rules S s j k) ≡ 0
     → (j ≡ dim S) × (k ≡ S.e) × (zero_size S ≤ length s)
@@ -165,12 +93,3 @@ zero_room S s j k e = let r = read-room zero_layout zero_lawful S (zero_lent S j
 pub mapped-room : (S : Setup) (s : List ℕ) (i j k : ℕ) → refusal (read_mapped_rules S s i j k) ≡ 0
     → (i ≡ dim S) × (j ≡ dim S) × (k ≡ S.l * S.l) × (mapped_size S ≤ length s)
 mapped-room S s i j k e = let r = read-room mapped_layout mapped-lawful S (mapped_lent S i j k) s e in (r.0.0, r.0.1.0, r.0.1.1.0, r.1)
-
--- a record without lists: its rules as its reader goes through them
-pub plain-read : {A : Type 0} (L : Layout A) (S : Setup) (s : List ℕ) (x : A) (l a r : ℕ) → x ≡ L.at S s → l ≡ refusal (limits S)
-    → a ≡ refusal_from l (due L.mark (L.size S) s) → r ≡ refusal_from a (L.faults S x)
-    → r ≡ refusal (limits S ++ (due L.mark (L.size S) s ++ L.faults S (L.at S s)))
-plain-read L S s x l a r f b d e =
-    e
-    ∙ ap (λ y. refusal_from a (L.faults S y)) f
-    ∙ ap (λ b. refusal_from b (L.faults S (L.at S s))) (d ∙ ap (λ b. refusal_from b (due L.mark (L.size S) s)) b)

@@ -18,8 +18,10 @@
 -- MappedParts, mapped_parts: all the fields of DF; mapped_lent: the buffers lent for its g, h and φ
 -- pair_layout_of: the layout that PV and PF share, under a mark
 -- paper_setup_read .. paper_share_read: document 01's number and values for each case of a reader's answer
-use Rattle.std.specs.Prelude.{not, ◌&&◌, List, [], ◌∷◌, ◌++◌, ℕ, ◌+◌, ◌*◌, eqb, leb, ltb, length}
-use Rattle.base.specs.Rules.{Rule, ◌when◌, refusal, Answer, refused, given, answer_by, left_by}
+use Rattle.std.specs.Prelude.{not, ◌&&◌, List, [], ◌∷◌, ◌++◌, ℕ, ◌+◌, ◌*◌, Result, eqb, leb, ltb, length}
+use Rattle.base.specs.Rules.{Rule, ◌when◌, refusal, Answer, given, answer_by, left_by}
+use Rattle.base.specs.declared.Refusal.{Refusal}
+use Rattle.base.specs.Refusals.{answer_of}
 use Rattle.scheme.specs.declared.Params.{Params}
 use Rattle.scheme.specs.Setup.{Setup, dim, setup_of}
 use Rattle.scheme.specs.Calls.{limits, Lent, elements, room, size, beyond_field, in_field, table, matrix}
@@ -28,16 +30,6 @@ use Rattle.record_layouts.specs.declared.DealingRecord.{DealingRecord}
 use Rattle.record_layouts.specs.declared.PairRecord.{PairRecord}
 use Rattle.record_layouts.specs.declared.VerdictRecord.{VerdictRecord}
 use Rattle.record_layouts.specs.declared.ShareRecord.{ShareRecord}
-use Rattle.record_layouts.specs.declared.SetupRead.{SetupRead}
-use Rattle.record_layouts.specs.declared.SetupRead.TheVariants as setupRead
-use Rattle.record_layouts.specs.declared.DealingRead.{DealingRead}
-use Rattle.record_layouts.specs.declared.DealingRead.TheVariants as dealingRead
-use Rattle.record_layouts.specs.declared.PairRead.{PairRead}
-use Rattle.record_layouts.specs.declared.PairRead.TheVariants as pairRead
-use Rattle.record_layouts.specs.declared.VerdictRead.{VerdictRead}
-use Rattle.record_layouts.specs.declared.VerdictRead.TheVariants as verdictRead
-use Rattle.record_layouts.specs.declared.ShareRead.{ShareRead}
-use Rattle.record_layouts.specs.declared.ShareRead.TheVariants as shareRead
 
 -- ONCE FOR ALL RECORDS
 -- "the mark, then the length, then the lowest number. A single last byte is a record cut short, 3"; "8: unknown mark, or one with no place there"
@@ -424,22 +416,17 @@ abbrev pub read_share_call : Setup → List ℕ → Answer
 read_share_call S s = read_call share_layout S [] s (share_values (share_at s))
 
 -- THE CASES OF THE READERS' ANSWERS
-abbrev pub paper_setup_read : SetupRead → Answer
-paper_setup_read (setupRead.Is x) = given (x.p ∷ x.l ∷ x.e ∷ x.n ∷ [])
-paper_setup_read (setupRead.Refused k) = refused k
+abbrev pub paper_setup_read : Result Params Refusal → Answer
+paper_setup_read r = answer_of (λ (x : Params). x.p ∷ x.l ∷ x.e ∷ x.n ∷ []) r
 
-abbrev pub paper_dealing_read : DealingRead → Answer
-paper_dealing_read (dealingRead.Is x) = given (x.dealing ∷ x.holder ∷ [])
-paper_dealing_read (dealingRead.Refused k) = refused k
+abbrev pub paper_dealing_read : Result DealingRecord Refusal → Answer
+paper_dealing_read r = answer_of (λ (x : DealingRecord). x.dealing ∷ x.holder ∷ []) r
 
-abbrev pub paper_pair_read : PairRead → Answer
-paper_pair_read (pairRead.Is x) = given (pair_values x)
-paper_pair_read (pairRead.Refused k) = refused k
+abbrev pub paper_pair_read : Result PairRecord Refusal → Answer
+paper_pair_read r = answer_of pair_values r
 
-abbrev pub paper_verdict_read : VerdictRead → Answer
-paper_verdict_read (verdictRead.Is x) = given (verdict_values x)
-paper_verdict_read (verdictRead.Refused k) = refused k
+abbrev pub paper_verdict_read : Result VerdictRecord Refusal → Answer
+paper_verdict_read r = answer_of verdict_values r
 
-abbrev pub paper_share_read : ShareRead → Answer
-paper_share_read (shareRead.Is x) = given (share_values x)
-paper_share_read (shareRead.Refused k) = refused k
+abbrev pub paper_share_read : Result ShareRecord Refusal → Answer
+paper_share_read r = answer_of share_values r

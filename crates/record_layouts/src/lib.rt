@@ -3,10 +3,12 @@
 #![tactic(auto)]
 
 ghost use Rattle.std.specs.Prelude.{◌≡◌, [], ◌*◌, ◌≤◌};
-ghost use Rattle.base.specs.Rules.{refusal_from};
+ghost use Rattle.base.specs.Rules.{refusal};
+ghost use Rattle.base.specs.Refusals.{refused_by};
 ghost use Rattle.scheme.specs.Setup.{setup_of};
 ghost use Rattle.record_layouts.specs.Records.{due, params_at, dealing_at, pair_at, verdict_at, share_at, dealing_faults, pair_faults, verdict_faults, share_faults};
 
+use base::Refusal;
 use scheme::Params;
 
 // MARKS AND SIZES
@@ -74,158 +76,101 @@ pub struct ShareRecord {
     pub round: u16,
 }
 
-// What the readers give.
-#[derive(Clone, Copy)]
-pub enum SetupRead {
-    Is(Params),
-    Refused(u16),
-}
-
-#[derive(Clone, Copy)]
-pub enum DealingRead {
-    Is(DealingRecord),
-    Refused(u16),
-}
-
-#[derive(Clone, Copy)]
-pub enum PairRead {
-    Is(PairRecord),
-    Refused(u16),
-}
-
-#[derive(Clone, Copy)]
-pub enum VerdictRead {
-    Is(VerdictRecord),
-    Refused(u16),
-}
-
-#[derive(Clone, Copy)]
-pub enum ShareRead {
-    Is(ShareRecord),
-    Refused(u16),
-}
-
 // THE FIELDS of a record that stands at the start of a part of a file; what follows the record is not looked at.
 pub fn params_at(s: &[u8]) -> Params
     ensures { result ≡ params_at s.now }
 {
-    let p = record_words::word(s, 1);
-    let l = record_words::word(s, 2);
-    let e = record_words::word(s, 3);
-    let n = record_words::word(s, 4);
-    Params { p, l, e, n }
+    Params {
+        p: record_words::word(s, 1),
+        l: record_words::word(s, 2),
+        e: record_words::word(s, 3),
+        n: record_words::word(s, 4),
+    }
 }
 
 pub fn dealing_at(s: &[u8]) -> DealingRecord
     ensures { result ≡ dealing_at s.now }
 {
-    let dealing = record_words::word(s, 1);
-    let holder = record_words::word(s, 2);
-    DealingRecord { dealing, holder }
+    DealingRecord {
+        dealing: record_words::word(s, 1),
+        holder: record_words::word(s, 2),
+    }
 }
 
 pub fn pair_at(s: &[u8]) -> PairRecord
     ensures { result ≡ pair_at s.now }
 {
-    let dealing = record_words::word(s, 1);
-    let sender = record_words::word(s, 2);
-    let receiver = record_words::word(s, 3);
-    let value = record_words::word(s, 4);
     PairRecord {
-        dealing,
-        sender,
-        receiver,
-        value,
+        dealing: record_words::word(s, 1),
+        sender: record_words::word(s, 2),
+        receiver: record_words::word(s, 3),
+        value: record_words::word(s, 4),
     }
 }
 
 pub fn verdict_at(s: &[u8]) -> VerdictRecord
     ensures { result ≡ verdict_at s.now }
 {
-    let dealing = record_words::word(s, 1);
-    let holder = record_words::word(s, 2);
-    let verdict = record_words::word(s, 3);
     VerdictRecord {
-        dealing,
-        holder,
-        verdict,
+        dealing: record_words::word(s, 1),
+        holder: record_words::word(s, 2),
+        verdict: record_words::word(s, 3),
     }
 }
 
 pub fn share_at(s: &[u8]) -> ShareRecord
     ensures { result ≡ share_at s.now }
 {
-    let dealing = record_words::word(s, 1);
-    let holder = record_words::word(s, 2);
-    let column = record_words::word(s, 3);
-    let value = record_words::word(s, 4);
-    let round = record_words::word(s, 5);
     ShareRecord {
-        dealing,
-        holder,
-        column,
-        value,
-        round,
+        dealing: record_words::word(s, 1),
+        holder: record_words::word(s, 2),
+        column: record_words::word(s, 3),
+        value: record_words::word(s, 4),
+        round: record_words::word(s, 5),
     }
 }
 
 // FAULTS of a record's own fields, whether it is written or read, as its layout has them.
-pub fn dealing_faults(standing: u16, s: Params, x: DealingRecord) -> u16
-    ensures { result ≡ refusal_from standing (dealing_faults (setup_of s []) x) }
+pub fn check_dealing(s: Params, x: DealingRecord) -> Result<(), Refusal>
+    ensures { refused_by result ≡ refusal (dealing_faults (setup_of s []) x) }
 {
-    if standing != 0 {
-        return standing;
-    }
-    if s.n <= x.holder {
-        return 5;
-    }
-    if x.dealing == 0 { 9 } else { 0 }
+    base::refuse_if(s.n <= x.holder, Refusal::Range)?;
+    base::refuse_if(x.dealing == 0, Refusal::DealingNumber)
 }
 
-pub fn pair_faults(standing: u16, s: Params, x: PairRecord) -> u16
-    ensures { result ≡ refusal_from standing (pair_faults (setup_of s []) x) }
+pub fn check_pair(s: Params, x: PairRecord) -> Result<(), Refusal>
+    ensures { refused_by result ≡ refusal (pair_faults (setup_of s []) x) }
 {
-    let a = base::or_when(standing, 4, s.p <= x.value);
-    let b = base::or_when(a, 5, s.n <= x.sender);
-    let c = base::or_when(b, 5, s.n <= x.receiver);
-    base::or_when(c, 9, x.dealing == 0)
+    base::refuse_if(s.p <= x.value, Refusal::Element)?;
+    base::refuse_if(s.n <= x.sender, Refusal::Range)?;
+    base::refuse_if(s.n <= x.receiver, Refusal::Range)?;
+    base::refuse_if(x.dealing == 0, Refusal::DealingNumber)
 }
 
-pub fn verdict_faults(standing: u16, s: Params, x: VerdictRecord) -> u16
-    ensures { result ≡ refusal_from standing (verdict_faults (setup_of s []) x) }
+pub fn check_verdict(s: Params, x: VerdictRecord) -> Result<(), Refusal>
+    ensures { refused_by result ≡ refusal (verdict_faults (setup_of s []) x) }
 {
-    let a = base::or_when(standing, 5, s.n <= x.holder);
-    let b = base::or_when(a, 9, x.dealing == 0);
-    base::or_when(b, 12, 2 <= x.verdict)
+    base::refuse_if(s.n <= x.holder, Refusal::Range)?;
+    base::refuse_if(x.dealing == 0, Refusal::DealingNumber)?;
+    base::refuse_if(2 <= x.verdict, Refusal::NoVerdict)
 }
 
-pub fn share_faults(standing: u16, s: Params, x: ShareRecord) -> u16
-    ensures { result ≡ refusal_from standing (share_faults (setup_of s []) x) }
+pub fn check_share(s: Params, x: ShareRecord) -> Result<(), Refusal>
+    ensures { refused_by result ≡ refusal (share_faults (setup_of s []) x) }
 {
-    let a = base::or_when(standing, 4, s.p <= x.value);
-    let b = base::or_when(a, 5, s.n <= x.holder);
-    let c = base::or_when(b, 5, s.l <= x.column);
-    if x.dealing == 0 {
-        base::or_when(c, 5, x.column != 0)
-    } else {
-        c
-    }
+    base::refuse_if(s.p <= x.value, Refusal::Element)?;
+    base::refuse_if(s.n <= x.holder, Refusal::Range)?;
+    base::refuse_if(s.l <= x.column, Refusal::Range)?;
+    base::refuse_if(x.dealing == 0 && x.column != 0, Refusal::Range)
 }
 
 // A RECORD AT THE START OF A PART OF A FILE: its mark and its length.
-pub fn or_due(standing: u16, s: &[u8], mark: u16, needed: usize) -> u16
-    ensures { result ≡ refusal_from standing (due mark needed s.now) }
+pub fn check_due(s: &[u8], mark: u16, needed: usize) -> Result<(), Refusal>
+    ensures { refused_by result ≡ refusal (due mark needed s.now) }
 {
-    if standing != 0 {
-        return standing;
-    }
-    if s.len() < 2 {
-        return 3;
-    }
-    if record_words::word(s, 0) != mark {
-        return 8;
-    }
-    if s.len() < needed { 3 } else { 0 }
+    base::refuse_if(s.len() < 2, Refusal::Length)?;
+    base::refuse_if(record_words::word(s, 0) != mark, Refusal::Mark)?;
+    base::refuse_if(s.len() < needed, Refusal::Length)
 }
 
 // How many entries φ has: ℓ * ℓ.

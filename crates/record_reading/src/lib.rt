@@ -11,34 +11,29 @@ ghost use Rattle.record_layouts.specs.Records.{read_mapped_call, read_mapped_lef
 ghost use Rattle.record_layouts.specs.Records.{pair_layout_of, pair_at, pair_values, read_call, read_pair_call, read_mapped_pair_call, read_verdict_call, read_share_call};
 ghost use Rattle.record_layouts.specs.Records.{paper_setup_read, paper_dealing_read, paper_pair_read, paper_verdict_read, paper_share_read};
 
+use base::Refusal;
 use record_layouts::{
-    DealingRead, MARK_PF, MARK_PV, MARK_SH, MARK_VD, PAIR_SIZE, PairRead, SHARE_SIZE, SetupRead,
-    ShareRead, VERDICT_SIZE, VerdictRead,
+    DealingRecord, MARK_PF, MARK_PV, MARK_SH, MARK_VD, PAIR_SIZE, PairRecord, SHARE_SIZE,
+    ShareRecord, VERDICT_SIZE, VerdictRecord,
 };
-use scheme::{Params, Written};
+use scheme::Params;
 
 // The four numbers of an SU.
-pub fn read_setup_head(s: &[u8]) -> SetupRead
+pub fn read_setup_head(s: &[u8]) -> Result<Params, Refusal>
     ensures { paper_setup_read result ≡ read_setup_call s.now }
 {
-    let refusal = list_records::setup_refusal(s);
-    if refusal != 0 {
-        return SetupRead::Refused(refusal);
-    }
-    SetupRead::Is(record_layouts::params_at(s))
+    list_records::check_setup(s)?;
+    Ok(record_layouts::params_at(s))
 }
 
 // The matrix of an SU, into a lent one of n * d entries.
-pub fn read_setup_matrix(s: &[u8], matrix: &mut [u16]) -> Written
+pub fn read_setup_matrix(s: &[u8], matrix: &mut [u16]) -> Result<(), Refusal>
     ensures answer { paper_written result ≡ read_matrix_call s.now matrix.old }
     ensures buffer { matrix.new ≡ read_matrix_left s.now matrix.old }
 {
-    let refusal = list_records::matrix_refusal(s, matrix.len());
-    if refusal != 0 {
-        return Written::Refused(refusal);
-    }
+    list_records::check_matrix(s, matrix.len())?;
     record_words::get_words(s, 5, matrix);
-    Written::Done
+    Ok(())
 }
 
 // g and h of a DL, a DZ or a DF; h as many entries as the lent buffer holds.
@@ -52,31 +47,35 @@ fn get_parts(s: Params, part: &[u8], g: &mut [u16], h: &mut [u16])
 }
 
 // The dealing number and the holder of a DL; g and h go into lent buffers of d entries.
-pub fn read_dealing(s: Params, part: &[u8], g: &mut [u16], h: &mut [u16]) -> DealingRead
+pub fn read_dealing(
+    s: Params,
+    part: &[u8],
+    g: &mut [u16],
+    h: &mut [u16],
+) -> Result<DealingRecord, Refusal>
     ensures answer { paper_dealing_read result ≡ read_dealing_call (setup_of s []) part.now g.old h.old }
     ensures row { g.new ≡ read_dealing_left_g (setup_of s []) part.now g.old h.old }
     ensures column { h.new ≡ read_dealing_left_h (setup_of s []) part.now g.old h.old }
 {
-    let refusal = list_records::dealing_refusal(s, part, g.len(), h.len());
-    if refusal != 0 {
-        return DealingRead::Refused(refusal);
-    }
+    list_records::check_dealing_lent(s, part, g.len(), h.len())?;
     get_parts(s, part, g, h);
-    DealingRead::Is(record_layouts::dealing_at(part))
+    Ok(record_layouts::dealing_at(part))
 }
 
 // The dealing number and the holder of a DZ; g and h go into lent buffers of d and e entries.
-pub fn read_zero_dealing(s: Params, part: &[u8], g: &mut [u16], h: &mut [u16]) -> DealingRead
+pub fn read_zero_dealing(
+    s: Params,
+    part: &[u8],
+    g: &mut [u16],
+    h: &mut [u16],
+) -> Result<DealingRecord, Refusal>
     ensures answer { paper_dealing_read result ≡ read_zero_call (setup_of s []) part.now g.old h.old }
     ensures row { g.new ≡ read_zero_left_g (setup_of s []) part.now g.old h.old }
     ensures column { h.new ≡ read_zero_left_h (setup_of s []) part.now g.old h.old }
 {
-    let refusal = list_records::zero_refusal(s, part, g.len(), h.len());
-    if refusal != 0 {
-        return DealingRead::Refused(refusal);
-    }
+    list_records::check_zero_lent(s, part, g.len(), h.len())?;
     get_parts(s, part, g, h);
-    DealingRead::Is(record_layouts::dealing_at(part))
+    Ok(record_layouts::dealing_at(part))
 }
 
 // The dealing number and the holder of a DF; g, h and φ go into lent buffers of d, d and ℓ * ℓ entries.
@@ -86,66 +85,57 @@ pub fn read_mapped_dealing(
     g: &mut [u16],
     h: &mut [u16],
     phi: &mut [u16],
-) -> DealingRead
+) -> Result<DealingRecord, Refusal>
     ensures answer { paper_dealing_read result ≡ read_mapped_call (setup_of s []) part.now g.old h.old phi.old }
     ensures row { g.new ≡ read_mapped_left_g (setup_of s []) part.now g.old h.old phi.old }
     ensures column { h.new ≡ read_mapped_left_h (setup_of s []) part.now g.old h.old phi.old }
     ensures map { phi.new ≡ read_mapped_left_phi (setup_of s []) part.now g.old h.old phi.old }
 {
-    let refusal = list_records::mapped_refusal(s, part, g.len(), h.len(), phi.len());
-    if refusal != 0 {
-        return DealingRead::Refused(refusal);
-    }
+    list_records::check_mapped_lent(s, part, g.len(), h.len(), phi.len())?;
     get_parts(s, part, g, h);
     record_words::get_words(part, 3 + 2 * s.dim(), phi);
-    DealingRead::Is(record_layouts::dealing_at(part))
+    Ok(record_layouts::dealing_at(part))
 }
 
 // PV's fields, under a mark.
-fn read_pair(mark: u16, s: Params, part: &[u8]) -> PairRead
+fn read_pair(mark: u16, s: Params, part: &[u8]) -> Result<PairRecord, Refusal>
     ensures { paper_pair_read result ≡ read_call (pair_layout_of mark) (setup_of s []) [] part.now (pair_values (pair_at part.now)) }
 {
+    scheme::check_limits(s)?;
+    record_layouts::check_due(part, mark, PAIR_SIZE)?;
     let x = record_layouts::pair_at(part);
-    let a = record_layouts::or_due(scheme::limits_refusal(s), part, mark, PAIR_SIZE);
-    let refusal = record_layouts::pair_faults(a, s, x);
-    if refusal != 0 {
-        return PairRead::Refused(refusal);
-    }
-    PairRead::Is(x)
+    record_layouts::check_pair(s, x)?;
+    Ok(x)
 }
 
-pub fn read_pair_value(s: Params, part: &[u8]) -> PairRead
+pub fn read_pair_value(s: Params, part: &[u8]) -> Result<PairRecord, Refusal>
     ensures { paper_pair_read result ≡ read_pair_call (setup_of s []) part.now }
 {
     read_pair(MARK_PV, s, part)
 }
 
-pub fn read_mapped_pair_value(s: Params, part: &[u8]) -> PairRead
+pub fn read_mapped_pair_value(s: Params, part: &[u8]) -> Result<PairRecord, Refusal>
     ensures { paper_pair_read result ≡ read_mapped_pair_call (setup_of s []) part.now }
 {
     read_pair(MARK_PF, s, part)
 }
 
-pub fn read_verdict(s: Params, part: &[u8]) -> VerdictRead
+pub fn read_verdict(s: Params, part: &[u8]) -> Result<VerdictRecord, Refusal>
     ensures { paper_verdict_read result ≡ read_verdict_call (setup_of s []) part.now }
 {
+    scheme::check_limits(s)?;
+    record_layouts::check_due(part, MARK_VD, VERDICT_SIZE)?;
     let x = record_layouts::verdict_at(part);
-    let a = record_layouts::or_due(scheme::limits_refusal(s), part, MARK_VD, VERDICT_SIZE);
-    let refusal = record_layouts::verdict_faults(a, s, x);
-    if refusal != 0 {
-        return VerdictRead::Refused(refusal);
-    }
-    VerdictRead::Is(x)
+    record_layouts::check_verdict(s, x)?;
+    Ok(x)
 }
 
-pub fn read_share(s: Params, part: &[u8]) -> ShareRead
+pub fn read_share(s: Params, part: &[u8]) -> Result<ShareRecord, Refusal>
     ensures { paper_share_read result ≡ read_share_call (setup_of s []) part.now }
 {
+    scheme::check_limits(s)?;
+    record_layouts::check_due(part, MARK_SH, SHARE_SIZE)?;
     let x = record_layouts::share_at(part);
-    let a = record_layouts::or_due(scheme::limits_refusal(s), part, MARK_SH, SHARE_SIZE);
-    let refusal = record_layouts::share_faults(a, s, x);
-    if refusal != 0 {
-        return ShareRead::Refused(refusal);
-    }
-    ShareRead::Is(x)
+    record_layouts::check_share(s, x)?;
+    Ok(x)
 }

@@ -1,19 +1,22 @@
 -- The laws of words and bytes: what is written as bytes reads back word by word, and the bytes follow from the words that they show.
 -- Shows: from word i on the bytes s show the words ws
 use mathlib.Core.Path.{◌≡◌, refl, sym, ap, ◌∙◌}
-use mathlib.Core.Bool.{Bool, true, false, ◌&&◌}
+use mathlib.Core.Bool.{Bool, true, false, not, not-not, ◌||◌}
 use mathlib.Core.List.{List, [], ◌∷◌, ◌++◌, append-nil, append_assoc}
 use Prim.Native.Nat.{ℕ, zero, suc, ◌+◌, ◌*◌, ◌/◌, ◌%◌, ◌<◌, ◌≤◌}
 use native.Mathlib.Nat.{add-zero, le_of_suc-le-suc, not-suc-le-zero}
 use native.Mathlib.Numerals.{add-one}
 use native.Mathlib.Omega.{arith}
-use lib.Dec.{eqb, ltb}
+use lib.Dec.{leb, ltb}
 use lib.ListN.{length, get_or, set, take, drop, length-append, get_or-append, drop_of_length-le}
 use lib.Seq.{sets, sets-eq, ext_get_or, get_or-append-add, get_or-drop, drop-cons}
+use Rattle.std.specs.List.{fold, range_with_len}
+use Rattle.std.proofs.lemmas.List.FromFn.{length-range_with_len, get_or-range_with_len}
 use Rattle.base.specs.Search.{every}
 use Rattle.base.specs.Matrix.{all_below}
+use Rattle.base.proofs.Matrix.{not-leb}
 use Rattle.base.proofs.Fill.{length-tab, get_d-tab}
-use Rattle.base.proofs.Search.{every-ext, every-step}
+use Rattle.base.proofs.Search.{every-ext, fold-any}
 use Rattle.record_words.specs.Words.{bytes, word_at, words_at, Bytes}
 
 -- BYTES OF WORDS
@@ -76,24 +79,21 @@ below-words p s i k =
     ap (λ n. every n (λ j. ltb (get_or (words_at s i k) j 0) p)) (length-words s i k)
     ∙ every-ext k (λ j. ltb (get_or (words_at s i k) j 0) p) (λ j. ltb (word_at s (i + j)) p) (λ j h. ap (λ w. ltb w p) (get_d_words s i k j h))
 
--- one word more is tested: it passes, or it fails and the mark is made
-and-true : (b : Bool) → (b && true) ≡ b
-and-true true = refl
-and-true false = refl
-
-and-false : (b : Bool) → (b && false) ≡ false
-and-false true = refl
-and-false false = refl
+-- the same as a fold over the places of the words
+pub words-fold : (p : ℕ) (s : List ℕ) (i k : ℕ) → fold (λ over n. over || leb p (word_at s n)) false (range_with_len i k) ≡ not (all_below p (words_at s i k))
+words-fold p s i k =
+    let r : List ℕ = range_with_len i k in
+    sym (not-not (fold (λ over n. over || leb p (word_at s n)) false r))
+    ∙ ap not
+    (fold-any (λ n. leb p (word_at s n)) false 0 r
+    ∙ ap (λ m. every m (λ j. not (leb p (word_at s (get_or r j 0))))) (length-range_with_len i k)
+    ∙ every-ext k (λ j. not (leb p (word_at s (get_or r j 0)))) (λ j. ltb (word_at s (i + j)) p)
+    (λ j h. ap (λ n. not (leb p (word_at s n))) (get_or-range_with_len i k j 0 h) ∙ not-leb p (word_at s (i + j)))
+    ∙ sym (below-words p s i k))
 
 pub every-none : (t : ℕ → Bool) → every 0 t ≡ true
 unfolding every
 every-none t = refl
-
-pub passed : (t : ℕ → Bool) (k over : ℕ) → t k ≡ true → eqb over 0 ≡ every k t → eqb over 0 ≡ every (k + 1) t
-passed t k over e h = h ∙ sym (every-step k t ∙ ap (λ b. every k t && b) e ∙ and-true (every k t))
-
-pub failed : (t : ℕ → Bool) (k over : ℕ) → t k ≡ false → over ≡ 1 → eqb over 0 ≡ every (k + 1) t
-failed t k over e h = rw h (sym (every-step k t ∙ ap (λ b. every k t && b) e ∙ and-false (every k t)))
 
 -- THE BYTES FOLLOW FROM THE WORDS
 abbrev pub Shows : List ℕ → ℕ → List ℕ → Type 0
@@ -155,10 +155,9 @@ pub two_runs : (l a b : List ℕ) (i : ℕ) → length a ≡ i → length l ≡ 
 two_runs l a b i p q = two-joined l a b i p ∙ sets-whole l (bytes (a ++ b)) (omega (arith, length-bytes (a ++ b), length-append a b))
 
 -- a turn of the loop that writes words
-pub put-turn : (l ws : List ℕ) (i k : ℕ) → k < length ws
-    → sets (set (set l (2 * (i + k)) (get_or ws k 0 % 256)) (2 * (i + k) + 1) (get_or ws k 0 / 256)) (2 * (i + (k + 1))) (bytes (drop (k + 1) ws))
-    ≡ sets l (2 * (i + k)) (bytes (drop k ws))
+pub put-turn : (l ws : List ℕ) (i k low high : ℕ) → k < length ws → low ≡ get_or ws k 0 % 256 → high ≡ get_or ws k 0 / 256
+    → sets (set (set l (2 * (i + k)) low) (2 * (i + k) + 1) high) (2 * (i + (k + 1))) (bytes (drop (k + 1) ws)) ≡ sets l (2 * (i + k)) (bytes (drop k ws))
 unfolding bytes
-put-turn l ws i k h =
+put-turn l ws i k low high h is-low is-high =
     let e : 2 * (i + (k + 1)) ≡ suc (suc (2 * (i + k))) = omega arith in
-    rw (e, add-one (2 * (i + k)), add-one k, drop-cons ws k 0 h)
+    rw (is-low, is-high, e, add-one (2 * (i + k)), add-one k, drop-cons ws k 0 h)

@@ -7,30 +7,21 @@
 -- is_a_row, is_a_vector, is_neither: the judgement of a set, 1, 2 or 0, then its row steps
 -- yes, no: a question's answer
 -- undetermined, inconsistent: refusal 6 with the lowest position that has no row, refusal 7
-use Rattle.std.specs.Prelude.{false, [], ◌∷◌, ℕ}
+use Rattle.std.specs.Prelude.{false, true, Bool, [], ◌∷◌, ℕ, Result, Ok, Err}
 use Rattle.base.specs.Rules.{Answer, refused, given}
-use Rattle.scheme.specs.declared.Written.{Written}
-use Rattle.scheme.specs.declared.Written.TheVariants.{Done, Refused}
-use Rattle.scheme.specs.declared.Value.{Value}
-use Rattle.scheme.specs.declared.Value.TheVariants as value
+use Rattle.base.specs.declared.Refusal.{Refusal}
+use Rattle.base.specs.Refusals.{number, answer_of}
 use Rattle.scheme.specs.declared.Share.{Share}
-use Rattle.scheme.specs.declared.Share.TheVariants as share
 use Rattle.scheme.specs.declared.Judgement.{Judgement}
 use Rattle.scheme.specs.declared.Judgement.TheVariants.{Accept, Reject, RejectMap}
-use Rattle.scheme.specs.declared.Judged.{Judged}
-use Rattle.scheme.specs.declared.Judged.TheVariants as judged
 use Rattle.scheme.specs.declared.Fate.{Fate}
 use Rattle.scheme.specs.declared.Fate.TheVariants.{Kept, Aborted}
-use Rattle.scheme.specs.declared.Settled.{Settled}
-use Rattle.scheme.specs.declared.Settled.TheVariants as settled
 use Rattle.scheme.specs.declared.Rehearsal.{Rehearsal}
-use Rattle.scheme.specs.declared.Rehearsal.TheVariants as rehearsal
-use Rattle.scheme.specs.declared.SetJudged.{SetJudged}
-use Rattle.scheme.specs.declared.SetJudged.TheVariants as set
-use Rattle.scheme.specs.declared.Decided.{Decided}
-use Rattle.scheme.specs.declared.Decided.TheVariants as decided
-use Rattle.scheme.specs.declared.Opened.{Opened}
-use Rattle.scheme.specs.declared.Opened.TheVariants as opened
+use Rattle.scheme.specs.declared.Rehearsal.TheVariants.{Fair, Disagree}
+use Rattle.scheme.specs.declared.SetJudgement.{SetJudgement}
+use Rattle.scheme.specs.declared.SetJudgement.TheVariants.{Row, Vector, Neither}
+use Rattle.scheme.specs.declared.NotOpened.{NotOpened}
+use Rattle.scheme.specs.declared.NotOpened.TheVariants as opened
 
 abbrev pub accepts : Answer
 accepts = given (1 ∷ [])
@@ -75,54 +66,58 @@ abbrev pub inconsistent : Answer
 inconsistent = refused 7
 
 -- THE CASES OF THE CODE'S ANSWERS
-abbrev pub paper_written : Written → Answer
-paper_written Done = given []
-paper_written (Refused k) = refused k
+-- a call that writes buffers only
+abbrev pub paper_written : {A : Type 0} → Result A Refusal → Answer
+paper_written r = answer_of (λ x. []) r
 
-abbrev pub paper_value : Value → Answer
-paper_value (value.Is x) = given (x ∷ [])
-paper_value (value.Refused k) = refused k
+abbrev pub paper_value : Result ℕ Refusal → Answer
+paper_value r = answer_of (λ x. x ∷ []) r
 
 -- a share as its value and its round
-abbrev pub paper_share : Share → Answer
-paper_share (share.Is x round) = given (x ∷ round ∷ [])
-paper_share (share.Refused k) = refused k
+abbrev pub paper_share : Result Share Refusal → Answer
+paper_share r = answer_of (λ (x : Share). x.value ∷ x.round ∷ []) r
 
 abbrev pub paper_judgement : Judgement → Answer
 paper_judgement Accept = accepts
 paper_judgement (Reject j) = rejects j
 paper_judgement RejectMap = rejects_map
 
-abbrev pub paper_judged : Judged → Answer
-paper_judged (judged.As j) = paper_judgement j
-paper_judged (judged.Refused k) = refused k
+abbrev pub paper_judged : Result Judgement Refusal → Answer
+paper_judged (Ok j) = paper_judgement j
+paper_judged (Err k) = refused (number k)
 
 abbrev pub paper_fate : Fate → Answer
 paper_fate Kept = kept
 paper_fate (Aborted i) = aborted i
 
-abbrev pub paper_settled : Settled → Answer
-paper_settled (settled.As f) = paper_fate f
-paper_settled (settled.Refused k) = refused k
+abbrev pub paper_settled : Result Fate Refusal → Answer
+paper_settled (Ok f) = paper_fate f
+paper_settled (Err k) = refused (number k)
 
-abbrev pub paper_rehearsal : Rehearsal → Answer
-paper_rehearsal rehearsal.Fair = fair
-paper_rehearsal (rehearsal.Disagree i j) = disagree i j
-paper_rehearsal (rehearsal.Refused k) = refused k
+abbrev pub paper_rehearsed : Rehearsal → Answer
+paper_rehearsed Fair = fair
+paper_rehearsed (Disagree i j) = disagree i j
 
-abbrev pub paper_set_judged : SetJudged → Answer
-paper_set_judged (set.Row k) = is_a_row k
-paper_set_judged (set.Vector k) = is_a_vector k
-paper_set_judged (set.Neither k) = is_neither k
-paper_set_judged (set.Refused k) = refused k
+abbrev pub paper_rehearsal : Result Rehearsal Refusal → Answer
+paper_rehearsal (Ok x) = paper_rehearsed x
+paper_rehearsal (Err k) = refused (number k)
 
-abbrev pub paper_decided : Decided → Answer
-paper_decided decided.Yes = yes
-paper_decided decided.No = no
-paper_decided (decided.Refused k) = refused k
+abbrev pub paper_set_judgement : SetJudgement → Answer
+paper_set_judgement (Row k) = is_a_row k
+paper_set_judgement (Vector k) = is_a_vector k
+paper_set_judgement (Neither k) = is_neither k
 
-abbrev pub paper_opened : Opened → Answer
-paper_opened opened.Secrets = given []
-paper_opened (opened.Undetermined k) = undetermined k
-paper_opened opened.Inconsistent = inconsistent
-paper_opened (opened.Refused k) = refused k
+abbrev pub paper_set_judged : Result SetJudgement Refusal → Answer
+paper_set_judged (Ok x) = paper_set_judgement x
+paper_set_judged (Err k) = refused (number k)
+
+abbrev pub paper_decided : Result Bool Refusal → Answer
+paper_decided (Ok true) = yes
+paper_decided (Ok false) = no
+paper_decided (Err k) = refused (number k)
+
+abbrev pub paper_opened : {A : Type 0} → Result A NotOpened → Answer
+paper_opened (Ok x) = given []
+paper_opened (Err (opened.Undetermined k)) = undetermined k
+paper_opened (Err opened.Inconsistent) = inconsistent
+paper_opened (Err (opened.Refused k)) = refused (number k)

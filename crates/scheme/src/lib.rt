@@ -4,11 +4,13 @@
 
 ghost use Rattle.std.specs.Prelude.{◌≡◌, not, [], ◌+◌, ◌*◌, ◌≤◌, eqb};
 ghost use Rattle.base.specs.Rules.{or_when, refusal};
+ghost use Rattle.base.specs.Refusals.{refused_by};
 ghost use Rattle.base.specs.Matrix.{all_below};
 ghost use Rattle.scheme.specs.Setup.{setup_of};
-ghost use Rattle.scheme.specs.Answers.{paper_written};
 ghost use Rattle.scheme.specs.Opening.{round_of, agree};
 ghost use Rattle.scheme.specs.Calls.{outside, limits, setup_rules};
+
+use base::Refusal;
 
 // The numbers of a setup; the matrix is lent beside them.
 #[derive(Clone, Copy)]
@@ -35,25 +37,11 @@ impl Params {
     }
 }
 
-// A call that writes buffers only.
+// A share: its value and its round.
 #[derive(Clone, Copy)]
-pub enum Written {
-    Done,
-    Refused(u16),
-}
-
-// A call that gives one field element.
-#[derive(Clone, Copy)]
-pub enum Value {
-    Is(u16),
-    Refused(u16),
-}
-
-// A call that gives a share: its value and its round.
-#[derive(Clone, Copy)]
-pub enum Share {
-    Is(u16, u16),
-    Refused(u16),
+pub struct Share {
+    pub value: u16,
+    pub round: u16,
 }
 
 // A holder's judgement of a dealing: a rejection names the lowest holder whose value differs; of two dealings tied by a map, only the check of the map
@@ -65,23 +53,11 @@ pub enum Judgement {
     RejectMap,
 }
 
-#[derive(Clone, Copy)]
-pub enum Judged {
-    As(Judgement),
-    Refused(u16),
-}
-
 // What became of a dealing: an abort names the lowest holder that said reject.
 #[derive(Clone, Copy)]
 pub enum Fate {
     Kept,
     Aborted(u16),
-}
-
-#[derive(Clone, Copy)]
-pub enum Settled {
-    As(Fate),
-    Refused(u16),
 }
 
 // How a dealing ended at one holder.
@@ -96,42 +72,31 @@ pub struct Outcome {
 pub enum Rehearsal {
     Fair,
     Disagree(u16, u16),
-    Refused(u16),
 }
 
 // The judgement of a set at a position, with its row steps.
 #[derive(Clone, Copy)]
-pub enum SetJudged {
+pub enum SetJudgement {
     Row(u16),
     Vector(u16),
     Neither(u16),
-    Refused(u16),
 }
 
-// A question with yes or no.
-#[derive(Clone, Copy)]
-pub enum Decided {
-    Yes,
-    No,
-    Refused(u16),
-}
-
-// An opening: the secrets written, or the lowest position with no row, or shares that no vector gives.
-#[derive(Clone, Copy)]
-pub enum Opened {
-    Secrets,
+// Why an opening gives no secrets: the lowest position with no row, shares that no vector gives, or a refusal that other calls have too.
+#[derive(Clone, Copy, Debug, PartialEq, Eq)]
+pub enum NotOpened {
     Undetermined(u16),
     Inconsistent,
-    Refused(u16),
+    Refused(Refusal),
 }
 
-// The number that a call which writes gives when it declines, 0 where it wrote.
-pub fn declined(written: Written) -> u16
-    ensures { result ≡ (paper_written written).number }
-{
-    match written {
-        Written::Done => 0,
-        Written::Refused(k) => k,
+impl From<Refusal> for NotOpened {
+    ghost use Rattle.scheme.specs.declared.NotOpened.TheVariants.{Refused};
+
+    ghost from_gives = { λ refusal e. e ≡ Refused refusal };
+
+    fn from(refusal: Refusal) -> NotOpened {
+        NotOpened::Refused(refusal)
     }
 }
 
@@ -139,62 +104,55 @@ pub fn declined(written: Written) -> u16
 fn outside(low: u16, high: u16, x: u16) -> bool
     ensures { result ≡ outside low high x }
 {
-    if x < low {
-        return true;
-    }
-    high < x
+    x < low || high < x
 }
 
 // Refusals 1 and 2, which every call with a setup has.
-pub fn limits_refusal(s: Params) -> u16
-    ensures { result ≡ refusal (limits (setup_of s [])) }
+pub fn check_limits(s: Params) -> Result<(), Refusal>
+    ensures { refused_by result ≡ refusal (limits (setup_of s [])) }
 {
-    let secret = outside(1, 8, s.l);
-    let random = outside(1, 8, s.e);
-    let holders = outside(1, 32, s.n);
-    let none = field::no_field(s.p);
-    let a = base::or_when(0, 1, none);
-    let b = base::or_when(a, 2, secret);
-    let c = base::or_when(b, 2, random);
-    base::or_when(c, 2, holders)
+    base::refuse_if(field::no_field(s.p), Refusal::NoField)?;
+    base::refuse_if(outside(1, 8, s.l), Refusal::Limits)?;
+    base::refuse_if(outside(1, 8, s.e), Refusal::Limits)?;
+    base::refuse_if(outside(1, 32, s.n), Refusal::Limits)
 }
 
-// One rule of refusal 3: a lent length is not the one needed.
-pub fn or_size(standing: u16, len: usize, needed: usize) -> u16
-    ensures { result ≡ or_when standing 3 (not (eqb len needed)) }
+// Refusal 3: a lent length is not the one needed.
+pub fn check_size(len: usize, needed: usize) -> Result<(), Refusal>
+    ensures { refused_by result ≡ or_when 0 3 (not (eqb len needed)) }
 {
-    base::or_when(standing, 3, len != needed)
+    base::refuse_if(len != needed, Refusal::Length)
 }
 
-// One rule of refusal 4: an element is p or more.
-pub fn or_elements(standing: u16, p: u16, s: &[u16]) -> u16
-    ensures { result ≡ or_when standing 4 (not (all_below p s.now)) }
+// Refusal 4: an element is p or more.
+pub fn check_elements(p: u16, s: &[u16]) -> Result<(), Refusal>
+    ensures { refused_by result ≡ or_when 0 4 (not (all_below p s.now)) }
 {
-    base::or_when(standing, 4, !base::all_below(s, p))
+    base::refuse_if(!base::all_below(s, p), Refusal::Element)
 }
 
 // The round of shares that are combined; of none it is 0.
 pub fn round_of(rounds: &[u16]) -> u16
     ensures { result ≡ round_of rounds.now }
 {
-    if rounds.len() == 0 {
-        return 0;
+    match rounds.first() {
+        Some(round) => *round,
+        None => 0,
     }
-    rounds[0]
 }
 
 // Refusal 19: the rounds differ.
-pub fn or_rounds(standing: u16, rounds: &[u16]) -> u16
-    ensures { result ≡ or_when standing 19 (not (agree rounds.now)) }
+pub fn check_rounds(rounds: &[u16]) -> Result<(), Refusal>
+    ensures { refused_by result ≡ or_when 0 19 (not (agree rounds.now)) }
 {
     let round = round_of(rounds);
-    base::or_when(standing, 19, !base::all_are(rounds, round))
+    base::refuse_if(!base::all_are(rounds, round), Refusal::Rounds)
 }
 
 // The limits and the length of a matrix, with which the calls on a matrix begin.
-pub fn limits_and_matrix(s: Params, len: usize) -> u16
-    ensures { result ≡ refusal (setup_rules (setup_of s []) len) }
+pub fn check_matrix_len(s: Params, len: usize) -> Result<(), Refusal>
+    ensures { refused_by result ≡ refusal (setup_rules (setup_of s []) len) }
 {
-    let needed = s.matrix_len();
-    or_size(limits_refusal(s), len, needed)
+    check_limits(s)?;
+    check_size(len, s.matrix_len())
 }

@@ -1,13 +1,16 @@
 -- From reduced systems to the answers about a set: what a system shows is a reconstruction row or a sweeping vector, or a proof that there is none.
 -- zeros-vec: zeros may stand for shares
+-- decided: a question's answer on paper
+-- determines-is: the lowest position that is lacking says whether the set determines the secrets
 -- row_fits, row-found, row-none: what the system for a reconstruction row shows
--- shown-below, vector-fits, vector-none, vector-found: what the system for a sweeping vector shows
+-- shown-below, vector-none, vector-found: what the system for a sweeping vector shows
 -- private-is: that system at all positions says whether the set is private
 -- judge-taken: what an accepted judgement says of its inputs
--- judged-row, judged-vector, judged-neither, buffer-judged, buffer-declined: the answer of the call, and its buffer
--- zeros-are, back: a buffer of zeros, and a part that comes back as it was
+-- judged-row, judged-vector, judged-neither, buffer-judged: the answer of the call, and its buffer
+-- back: a part that comes back as it was
 use mathlib.Core.Path.{◌≡◌, refl, sym, ap, ◌∙◌}
-use mathlib.Core.Bool.{Bool, true, false, false≢true}
+use mathlib.Core.Bool.{Bool, true, false, not, false≢true}
+use native.Mathlib.Decide.{dec_lt}
 use mathlib.Core.List.{List, ◌++◌}
 use mathlib.Core.Option.{some}
 use Prim.Native.Nat.{ℕ, ◌+◌, ◌-◌, ◌*◌, ◌%◌, ◌≤◌, ◌<◌}
@@ -19,12 +22,12 @@ use lib.Seq.{ext_get_or, get_or-drop, get_or-take}
 use borrow.Author.Tests.{lt-ltb, le-leb, lt-leb}
 use Rattle.base.specs.Choice.{pick}
 use Rattle.base.specs.Rules.{Answer, refusal}
-use Rattle.base.specs.Search.{Vec}
+use Rattle.base.specs.Search.{Vec, first}
 use Rattle.base.specs.Fill.{tab}
 use Rattle.base.specs.Matrix.{entry, Below}
 use Rattle.base.specs.Sum.{unit}
 use Rattle.base.proofs.Search.{every-ext, first_vec-sound}
-use Rattle.base.proofs.Fill.{get_d-tab, tab-vec, tab-ext, tab-is}
+use Rattle.base.proofs.Fill.{get_d-tab, tab-vec, tab-ext}
 use Rattle.field.specs.Dot.{at}
 use Rattle.field.proofs.Congruence.{cong-two}
 use Rattle.field.proofs.Dot.{dot-ext, dot-mod-right}
@@ -35,14 +38,16 @@ use Rattle.elimination.specs.Inner.{buffers, Fits}
 use Rattle.read_off.proofs.Reduced.{beside, turned_left, turned_right, sweep-is, shown-small}
 use Rattle.read_off.proofs.Shows.{unsolved-shows, shown-shows}
 use Rattle.scheme.specs.Setup.{Setup, dim}
-use Rattle.scheme.specs.Answers.{is_a_row, is_a_vector, is_neither}
-use Rattle.scheme.specs.Sets.{holds, members, has_row, is_one_row, one_row, is_sweep, has_sweep, across, row_steps, kind, is_private}
-use Rattle.scheme.specs.Calls.{judge_set_rules, JudgeSetLeft, of_row, of-vector, of-neither}
+use Rattle.std.specs.Prelude.{Ok}
+use Rattle.scheme.specs.Answers.{is_a_row, is_a_vector, is_neither, paper_decided}
+use Rattle.scheme.specs.Sets.{holds, members, determines, has_row, is_one_row, one_row, is_sweep, has_sweep, across, row_steps, kind, is_private}
+use Rattle.scheme.specs.Calls.{decide, judge_set_rules, JudgeSetLeft, of_row, of-vector, of-neither}
 use Rattle.scheme.proofs.Calls.{set-accepts, judge_set-ok}
 use Rattle.scheme.proofs.Sets.{rows, unit-mod, is-sweep, row-there, sweep-there}
 use Rattle.scheme.proofs.Certificates.{sweep-in-hand, no-sweep, kind_row, kind-vector, kind-neither}
 use Rattle.set_rows.proofs.OneRow.{one-is-row, found-one, shows-one, shows-none}
 use Rattle.set_systems.specs.Inner.{SetTaken, members_of, aside, AcrossReduced, AsideReduced}
+use Rattle.set_systems.proofs.Systems.{determines-by, determines-not}
 use Rattle.set_systems.proofs.Members.{prime-of, wide, few, narrow, zeros, part-size}
 use Rattle.set_questions.specs.Buffer.{SetBuffer}
 use Rattle.set_questions.specs.Inner.{negated, RowSought, VectorSought}
@@ -50,12 +55,23 @@ use Rattle.set_questions.specs.Inner.{negated, RowSought, VectorSought}
 members-are : {S : Setup} {s : ℕ} (ok : SetTaken S s) {n : ℕ} → n ≡ length (members 32 (holds s)) → n ≡ length (members_of S s)
 members-are ok K = K ∙ ap length (wide ok)
 
+pub decided : (b : Bool) → paper_decided (Ok b) ≡ decide b
+decided true = refl
+decided false = refl
+
 -- DETERMINES: zeros stand for the shares
 pub zeros-vec : (p k n : ℕ) → 0 < p → k ≤ n → Vec p k (take k (zeros n))
 zeros-vec p k n pos l = record {
   size = sym (part-size k n l);
   small = λ i m. rw (get_or-take k (zeros n) i 0 m, get_or-replicate {A = ℕ} n i 0 0 (omega arith)) pos;
 }
+
+pub determines-is : (S : Setup) (X : ℕ → Bool) (q : ℕ) → q ≡ first (λ q. not (has_row S X q)) S.l → leb S.l q ≡ determines S X
+determines-is S X q e = go (dec_lt q S.l)
+  where
+    go : Dec (q < S.l) → leb S.l q ≡ determines S X
+    go (yes h) = lt-leb S.l q h ∙ sym (determines-not S X q e h)
+    go (no n) = let h : S.l ≤ q = omega arith in le-leb S.l q h ∙ sym (determines-by S X q e h)
 
 -- A RECONSTRUCTION ROW
 -- the reduced system shows the set's row, or that there is none
@@ -107,10 +123,6 @@ negative-is p x big l = go (p - 1) (p - x) (omega arith) (omega arith)
   where
     go : (n m : ℕ) → n + 1 ≡ p → m + x ≡ p → m % p ≡ (n * x) % p
     go n m e f = cong-two p x 1 m (n * x) (omega (arith, ap (λ z. x * z) e))
-
-pub vector-fits : {S : Setup} {s : ℕ} (ok : SetTaken S s) {a u : List ℕ} → AsideReduced S s a u → {n d : ℕ} → n ≡ length (members 32 (holds s)) → d ≡ dim S
-    → Fits n d a u
-vector-fits ok R K D = rw (D, members-are ok K) (record { size = R.shows.size; marks = R.shows.marks; narrow = omega (arith, narrow ok) })
 
 module _ {S : Setup} {s : ℕ} (ok : SetTaken S s) {q : ℕ} (inside : q < S.l) {a u : List ℕ} (R : AsideReduced S s a u) where
   G : ℕ → ℕ → ℕ
@@ -205,9 +217,6 @@ private-is {S} ok R K D = every-ext S.l _ _ (λ q l. swept-is ok l R K D refl)
 pub judge-taken : (S : Setup) (s q : ℕ) (out : List ℕ) → refusal (judge_set_rules S s q out) ≡ 0 → SetTaken S s × (length out ≡ 32) × (q < S.l)
 judge-taken S s q out z = let h = judge_set-ok S s q out z in (record { accepted = set-accepts _ _ h.0 }, h.1, h.2)
 
-pub zeros-are : (n : ℕ) → tab {A = ℕ} n (λ i. 0) ≡ replicate n 0
-zeros-are n = sym (tab-is n (λ i. 0) 0 (replicate n 0) (length-replicate {A = ℕ} n 0) (λ k l. get_or-replicate {A = ℕ} n k 0 0 l))
-
 drop-zeros : (k n : ℕ) → k ≤ n → drop {A = ℕ} k (replicate n 0) ≡ replicate (n - k) 0
 drop-zeros k n l =
     ext_get_or 0 (drop k (replicate n 0)) (replicate (n - k) 0) (long ∙ sym (length-replicate {A = ℕ} (n - k) 0))
@@ -252,6 +261,3 @@ back k out left e = rw e (take-append-drop k out)
 module _ (S : Setup) (s q : ℕ) (out : List ℕ) (answer : Answer) where
   pub buffer-judged : (left : List ℕ) → refusal (judge_set_rules S s q out) ≡ 0 → JudgeSetLeft S (holds s) q answer left → SetBuffer S s q out answer left
   buffer-judged left z h = record { judged = λ e. h; declined = λ n. absurd (n z) }
-
-  pub buffer-declined : (refusal (judge_set_rules S s q out) ≡ 0 → ⊥) → SetBuffer S s q out answer out
-  buffer-declined n = record { judged = λ e. absurd (n e); declined = λ m. refl }

@@ -3,8 +3,9 @@
 // the answer off.
 #![tactic(auto)]
 
-ghost use Rattle.std.specs.Prelude.{◌≡◌, ◌+◌, ◌<◌, length, replicate};
+ghost use Rattle.std.specs.Prelude.{◌≡◌, ◌+◌, ◌<◌, length};
 ghost use Rattle.base.specs.Rules.{refusal};
+ghost use Rattle.base.specs.Refusals.{refused_by};
 ghost use Rattle.base.specs.Fill.{tab};
 ghost use Rattle.base.specs.Matrix.{Below};
 ghost use Rattle.elimination.specs.Inner.{buffers, Fits};
@@ -16,17 +17,15 @@ ghost use Rattle.set_systems.specs.Inner.{SetTaken};
 ghost use Rattle.set_questions.specs.Buffer.{SetBuffer};
 ghost use Rattle.set_questions.specs.Inner.{negated, RowSought, VectorSought};
 
-use scheme::{Decided, Params, SetJudged};
+use base::Refusal;
+use scheme::{Params, SetJudgement};
 
 // PRIVATE
 // Whether a set is called private: whether every position has a sweeping vector. One elimination serves all positions.
-pub fn private(s: Params, matrix: &[u16], set: u32) -> Decided
+pub fn private(s: Params, matrix: &[u16], set: u32) -> Result<bool, Refusal>
     ensures { paper_decided result ≡ private_call (setup_of s matrix.now) set }
 {
-    let refusal = set_systems::set_refusal(s, matrix, set);
-    if refusal != 0 {
-        return Decided::Refused(refusal);
-    }
+    set_systems::check_set(s, matrix, set)?;
     let mut buffer = [0u16; 512];
     let mut marks = [0u16; 32];
     let l = s.l as usize;
@@ -37,22 +36,15 @@ pub fn private(s: Params, matrix: &[u16], set: u32) -> Decided
     let a = &mut buffer[..end];
     let used = &mut marks[..k];
     set_systems::reduce_aside(s, matrix, set, a, used);
-    if read_off::all_solved(a, used, k, d, e, l) {
-        Decided::Yes
-    } else {
-        Decided::No
-    }
+    Ok(read_off::all_solved(a, used, k, d, e, l))
 }
 
 // DETERMINES
 // Whether a set determines the secrets: whether every position has a reconstruction row.
-pub fn determines(s: Params, matrix: &[u16], set: u32) -> Decided
+pub fn determines(s: Params, matrix: &[u16], set: u32) -> Result<bool, Refusal>
     ensures { paper_decided result ≡ determines_call (setup_of s matrix.now) set }
 {
-    let refusal = set_systems::set_refusal(s, matrix, set);
-    if refusal != 0 {
-        return Decided::Refused(refusal);
-    }
+    set_systems::check_set(s, matrix, set)?;
     let mut buffer = [0u16; 544];
     let mut marks = [0u16; 32];
     let zeros = [0u16; 32];
@@ -67,7 +59,7 @@ pub fn determines(s: Params, matrix: &[u16], set: u32) -> Decided
         &mut buffer[..end],
         &mut marks[..k],
     );
-    if q < l { Decided::No } else { Decided::Yes }
+    Ok(l <= q)
 }
 
 // A RECONSTRUCTION ROW
@@ -135,10 +127,8 @@ fn write_sweep(s: Params, a: &[u16], used: &[u16], rows: usize, q: usize, out: &
     ensures { out.new ≡ tab (length out.old) (negated s.p rows (length out.old) s.l s.e q (buffers a.now used.now)) }
 {
     let d = out.len();
-    let mut place = 0;
-    while place < d {
-        out[place] = sweep_entry(s, a, used, rows, d, q, place);
-        place += 1;
+    for (place, entry) in out.iter_mut().enumerate() {
+        *entry = sweep_entry(s, a, used, rows, d, q, place);
     }
 }
 
@@ -165,46 +155,44 @@ fn seek_vector(s: Params, matrix: &[u16], set: u32, q: usize, out: &mut [u16]) -
 }
 
 // JUDGE A SET
-fn judge_set_refusal(s: Params, matrix: &[u16], set: u32, position: u16, out: &[u16]) -> u16
-    ensures { result ≡ refusal (judge_set_rules (setup_of s matrix.now) set position out.now) }
+fn check_judge_set(
+    s: Params,
+    matrix: &[u16],
+    set: u32,
+    position: u16,
+    out: &[u16],
+) -> Result<(), Refusal>
+    ensures { refused_by result ≡ refusal (judge_set_rules (setup_of s matrix.now) set position out.now) }
 {
-    let a = scheme::limits_and_matrix(s, matrix.len());
-    let b = scheme::or_size(a, out.len(), 32);
-    let c = scheme::or_elements(b, s.p, matrix);
-    let e = base::or_when(c, 5, set_systems::beyond(s.n, set));
-    base::or_when(e, 5, s.l <= position)
-}
-
-// Zeros throughout.
-fn clear(out: &mut [u16])
-    ensures { out.new ≡ replicate (length out.old) 0 }
-{
-    let mut i = 0;
-    while i < out.len() {
-        out[i] = 0;
-        i += 1;
-    }
+    scheme::check_matrix_len(s, matrix.len())?;
+    scheme::check_size(out.len(), 32)?;
+    scheme::check_elements(s.p, matrix)?;
+    base::refuse_if(set_systems::beyond(s.n, set), Refusal::Range)?;
+    base::refuse_if(s.l <= position, Refusal::Range)
 }
 
 // Judges a set at a position: a reconstruction row, a sweeping vector, or neither, with the row steps; the row or a vector into 32 entries, then zeros.
-pub fn judge_set(s: Params, matrix: &[u16], set: u32, position: u16, out: &mut [u16]) -> SetJudged
+pub fn judge_set(
+    s: Params,
+    matrix: &[u16],
+    set: u32,
+    position: u16,
+    out: &mut [u16],
+) -> Result<SetJudgement, Refusal>
     ensures result_value { paper_set_judged result ≡ judge_set_call (setup_of s matrix.now) set position out.old }
     ensures set_buffer { SetBuffer (setup_of s matrix.now) set position out.old (paper_set_judged result) out.new }
 {
-    let refusal = judge_set_refusal(s, matrix, set, position, out);
-    if refusal != 0 {
-        return SetJudged::Refused(refusal);
-    }
-    clear(out);
+    check_judge_set(s, matrix, set, position, out)?;
+    out.fill(0);
     let q = position as usize;
     let k = set_systems::size(set);
     let row = seek_row(s, matrix, set, q, &mut out[..k]);
     if row.found {
-        return SetJudged::Row(row.steps);
+        return Ok(SetJudgement::Row(row.steps));
     }
     let d = s.dim();
     if seek_vector(s, matrix, set, q, &mut out[..d]) {
-        return SetJudged::Vector(row.steps);
+        return Ok(SetJudgement::Vector(row.steps));
     }
-    SetJudged::Neither(row.steps)
+    Ok(SetJudgement::Neither(row.steps))
 }

@@ -4,6 +4,7 @@
 
 ghost use Rattle.std.specs.Prelude.{◌≡◌, ◌+◌, ◌*◌, ◌<◌, ◌≤◌, length, get_or};
 ghost use Rattle.base.specs.Rules.{refusal};
+ghost use Rattle.base.specs.Refusals.{refused_by};
 ghost use Rattle.base.specs.Search.{Vec};
 ghost use Rattle.base.specs.Sum.{unit};
 ghost use Rattle.base.specs.Fill.{tab, laid};
@@ -14,6 +15,7 @@ ghost use Rattle.scheme.specs.Sets.{holds, members, across};
 ghost use Rattle.scheme.specs.Calls.{beyond, set_rules};
 ghost use Rattle.set_systems.specs.Inner.{SetTaken, Walked, Lie, Fresh, beside, aside, lacking, AcrossReduced, AsideReduced, Eliminated};
 
+use base::Refusal;
 use scheme::Params;
 
 // MEMBERS
@@ -51,21 +53,21 @@ pub fn walk(set: u32, out: &mut [u16]) -> usize
     k
 }
 
-// Where the row of member i starts in the matrix.
-fn row_start(members: &[u16], i: usize, d: usize) -> usize
-    requires { (i < length members.now) × (d ≤ 16) }
-    ensures { result ≡ get_or members.now i 0 * d }
+// Where the row of a member starts in the matrix.
+fn row_start(member: u16, d: usize) -> usize
+    requires { d ≤ 16 }
+    ensures { result ≡ member * d }
 {
-    (base::at(members, i) as usize) * d
+    usize::from(member) * d
 }
 
 // WHAT REFUSES A SET
-pub fn set_refusal(s: Params, matrix: &[u16], set: u32) -> u16
-    ensures { result ≡ refusal (set_rules (setup_of s matrix.now) set) }
+pub fn check_set(s: Params, matrix: &[u16], set: u32) -> Result<(), Refusal>
+    ensures { refused_by result ≡ refusal (set_rules (setup_of s matrix.now) set) }
 {
-    let a = scheme::limits_and_matrix(s, matrix.len());
-    let b = scheme::or_elements(a, s.p, matrix);
-    base::or_when(b, 5, beyond(s.n, set))
+    scheme::check_matrix_len(s, matrix.len())?;
+    scheme::check_elements(s.p, matrix)?;
+    base::refuse_if(beyond(s.n, set), Refusal::Range)
 }
 
 // THE ROWS BESIDE THE SHARES, for an opening and for what a set determines
@@ -75,13 +77,11 @@ fn load_beside(matrix: &[u16], d: usize, members: &[u16], shares: &[u16], a: &mu
     requires lie { Lie d matrix.now members.now }
     ensures { a.new ≡ tab (length a.old) (flat (d + 1) (beside d matrix.now members.now shares.now)) }
 {
-    let mut i = 0;
-    while i < members.len() {
-        let from = row_start(members, i, d);
+    for (i, member) in members.iter().enumerate() {
+        let from = row_start(*member, d);
         let t = i * (d + 1);
         base::copy(a, t, matrix, from, d);
         a[t + d] = shares[i];
-        i += 1;
     }
 }
 
@@ -91,14 +91,12 @@ fn lacking(a: &[u16], used: &[u16], rows: usize, width: usize, d: usize, l: usiz
     requires d_le_width { (d ≤ width) × (l ≤ d) }
     ensures { result ≡ lacking rows width d l (buffers a.now used.now) }
 {
-    let mut q = 0;
-    while q < l {
+    for q in 0..l {
         if !read_off::fixes(a, used, rows, width, d, q) {
             return q;
         }
-        q += 1;
     }
-    q
+    l
 }
 
 // Eliminates the members' rows beside the shares, and gives the lowest position below ℓ that has no row, or ℓ.
@@ -130,11 +128,9 @@ fn gather(a: &mut [u16], t: usize, m: &[u16], d: usize, c: usize, members: &[u16
     requires lie { Lie d m.now members.now }
     ensures { a.new ≡ laid (λ i. entry d m.now (get_or members.now i 0) c) t (length members.now) a.old }
 {
-    let mut i = 0;
-    while i < members.len() {
-        let from = row_start(members, i, d);
+    for (i, member) in members.iter().enumerate() {
+        let from = row_start(*member, d);
         a[t + i] = m[from + c];
-        i += 1;
     }
 }
 
@@ -152,12 +148,10 @@ fn load_across(matrix: &[u16], d: usize, members: &[u16], q: usize, a: &mut [u16
     ensures { a.new ≡ tab (length a.old) (flat (length members.now + 1) (across d matrix.now members.now q)) }
 {
     let k = members.len();
-    let mut c = 0;
-    while c < d {
+    for c in 0..d {
         let t = c * (k + 1);
         gather(a, t, matrix, d, c, members);
         a[t + k] = unit(q, c);
-        c += 1;
     }
 }
 
@@ -189,13 +183,11 @@ fn load_aside(matrix: &[u16], l: usize, e: usize, members: &[u16], a: &mut [u16]
     ensures { a.new ≡ tab (length a.old) (flat (l + e) (aside l e matrix.now members.now)) }
 {
     let d = l + e;
-    let mut i = 0;
-    while i < members.len() {
-        let from = row_start(members, i, d);
+    for (i, member) in members.iter().enumerate() {
+        let from = row_start(*member, d);
         let t = i * d;
         base::copy(a, t, matrix, from + l, e);
         base::copy(a, t + e, matrix, from, l);
-        i += 1;
     }
 }
 

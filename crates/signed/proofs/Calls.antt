@@ -23,6 +23,10 @@ use Rattle.base.proofs.Rules.{stays, clear, refusal-after, joined, unchanged-of}
 use Rattle.base.proofs.Fill.{length-tab}
 use Rattle.base.proofs.Matrix.{below-is}
 use Rattle.field.specs.Fields.{is_field}
+use Rattle.std.specs.Prelude.{Err}
+use Rattle.scheme.specs.declared.NotOpened.{NotOpened}
+use Rattle.scheme.specs.declared.NotOpened.TheVariants.{Undetermined, Inconsistent, Refused}
+use Rattle.scheme.specs.Answers.{paper_opened}
 use Rattle.scheme.specs.Setup.{Setup}
 use Rattle.scheme.specs.Sets.{holds, members}
 use Rattle.scheme.specs.Opening.{opening, combine, round_of}
@@ -111,6 +115,14 @@ pub front_fits : (k : ℕ) (l m : List ℕ) → length l ≡ k → k ≤ length 
 front_fits k l m e = omega (arith, e, length-append l m)
 
 -- OPEN
+pub not_answered : (k : NotOpened) → (paper_opened {A = Unit {0}} (Err k)).answered ≡ false
+not_answered (Undetermined q) = refl
+not_answered Inconsistent = refl
+not_answered (Refused k) = refl
+
+pub of_field : (p : ℕ) → refusal (other_field p ∷ []) ≡ 0 → p ≡ 65521
+of_field p e = size_is p 65521 (clear (other_field p ∷ []) tt e).0
+
 pub nine : (k : ℕ) → pick (ltb k 9) k 9 ≤ 9
 nine k = go (ltb k 9) refl
   where

@@ -5,39 +5,33 @@
 ghost use Rattle.std.specs.Prelude.{◌≡◌, true, [], ◌∷◌, ◌<◌, ltb, length};
 ghost use Rattle.base.specs.Choice.{pick};
 ghost use Rattle.base.specs.Rules.{refusal};
+ghost use Rattle.base.specs.Refusals.{refused_by};
 ghost use Rattle.base.specs.Matrix.{all_below};
 ghost use Rattle.scheme.specs.Setup.{setup_of};
 ghost use Rattle.scheme.specs.Answers.{paper_written, paper_share, paper_opened};
 ghost use Rattle.signed.specs.Corrections.{in_range, all_in_range, residue, residues, correction, corrections};
 ghost use Rattle.signed.specs.Calls.{beyond_range, other_field, hold_call, hold_left, read_rules, read_call, read_left, combine_signed_call, open_signed_call, open_signed_left};
 
-use scheme::{Opened, Params, Share, Written};
+use base::Refusal;
+use scheme::{NotOpened, Params, Share};
 
 // CORRECTIONS
 // Whether a correction is from -32760 to 32760.
 fn in_range(x: i32) -> bool
     ensures { result ≡ in_range x }
 {
-    if x < -32760 {
-        return false;
-    }
-    x <= 32760
+    (-32760..=32760).contains(&x)
 }
 
 // Whether all are. It reads the whole slice, so that it takes the same time for every content.
 fn all_in_range(s: &[i32]) -> bool
     ensures { result ≡ all_in_range s.now }
 {
-    let mut over: u16 = 0;
-    let mut i = 0;
-    while i < s.len() {
-        let x = s[i];
-        if !in_range(x) {
-            over = 1;
-        }
-        i += 1;
+    let mut all = true;
+    for x in s {
+        all &= in_range(*x);
     }
-    over == 0
+    all
 }
 
 // The remainder of a correction.
@@ -54,18 +48,23 @@ fn correction(r: u16) -> i32
     requires { r < 65521 }
     ensures { result ≡ correction r }
 {
-    let x = r as i32;
+    let x = i32::from(r);
     if x <= 32760 { x } else { x - 65521 }
 }
 
-// Refusals 22 and 1, with which the calls that take corrections or constants begin.
-fn first_refusal(p: u16, signed: &[i32]) -> u16
-    ensures { result ≡ refusal (beyond_range signed.now ∷ other_field p ∷ []) }
+// Refusal 1: another p.
+fn check_field(p: u16) -> Result<(), Refusal>
+    ensures { refused_by result ≡ refusal (other_field p ∷ []) }
 {
-    let beyond = !all_in_range(signed);
-    let other = p != 65521;
-    let a = base::or_when(0, 22, beyond);
-    base::or_when(a, 1, other)
+    base::refuse_if(p != 65521, Refusal::NoField)
+}
+
+// Refusals 22 and 1, with which the calls that take corrections or constants begin.
+fn check_first(p: u16, signed: &[i32]) -> Result<(), Refusal>
+    ensures { refused_by result ≡ refusal (beyond_range signed.now ∷ other_field p ∷ []) }
+{
+    base::refuse_if(!all_in_range(signed), Refusal::Correction)?;
+    check_field(p)
 }
 
 // HOLD
@@ -74,26 +73,20 @@ fn hold_all(integers: &[i32], held: &mut [u16])
     requires held_len { length held.old ≡ length integers.now }
     ensures { held.new ≡ residues integers.now }
 {
-    let mut i = 0;
-    while i < integers.len() {
-        let x = integers[i];
-        held[i] = residue(x);
-        i += 1;
+    for (i, x) in integers.iter().enumerate() {
+        held[i] = residue(*x);
     }
 }
 
 // Holds corrections as residues, which can be dealt.
-pub fn hold(p: u16, corrections: &[i32], residues: &mut [u16]) -> Written
+pub fn hold(p: u16, corrections: &[i32], residues: &mut [u16]) -> Result<(), Refusal>
     ensures result_value { paper_written result ≡ hold_call p corrections.now residues.old }
     ensures residues_after { residues.new ≡ hold_left p corrections.now residues.old }
 {
-    let first = first_refusal(p, corrections);
-    let refusal = scheme::or_size(first, residues.len(), corrections.len());
-    if refusal != 0 {
-        return Written::Refused(refusal);
-    }
+    check_first(p, corrections)?;
+    scheme::check_size(residues.len(), corrections.len())?;
     hold_all(corrections, residues);
-    Written::Done
+    Ok(())
 }
 
 // READ
@@ -102,45 +95,36 @@ fn read_all(held: &[u16], integers: &mut [i32])
     requires integers_len { length integers.old ≡ length held.now }
     ensures { integers.new ≡ corrections held.now }
 {
-    let mut i = 0;
-    while i < held.len() {
-        let x = correction(held[i]);
-        integers[i] = x;
-        i += 1;
+    for (i, x) in held.iter().enumerate() {
+        integers[i] = correction(*x);
     }
 }
 
-fn read_refusal(p: u16, residues: &[u16], corrections: &[i32]) -> u16
-    ensures { result ≡ refusal (read_rules p residues.now corrections.now) }
+fn check_read(p: u16, residues: &[u16], corrections: &[i32]) -> Result<(), Refusal>
+    ensures { refused_by result ≡ refusal (read_rules p residues.now corrections.now) }
 {
-    let other = base::or_when(0, 1, p != 65521);
-    let sized = scheme::or_size(other, corrections.len(), residues.len());
-    scheme::or_elements(sized, p, residues)
+    check_field(p)?;
+    scheme::check_size(corrections.len(), residues.len())?;
+    scheme::check_elements(p, residues)
 }
 
 // Reads residues back into corrections.
-pub fn read(p: u16, residues: &[u16], corrections: &mut [i32]) -> Written
+pub fn read(p: u16, residues: &[u16], corrections: &mut [i32]) -> Result<(), Refusal>
     ensures result_value { paper_written result ≡ read_call p residues.now corrections.old }
     ensures corrections_after { corrections.new ≡ read_left p residues.now corrections.old }
 {
-    let refusal = read_refusal(p, residues, corrections);
-    if refusal != 0 {
-        return Written::Refused(refusal);
-    }
+    check_read(p, residues, corrections)?;
     read_all(residues, corrections);
-    Written::Done
+    Ok(())
 }
 
 // COMBINE
 // The sum of the products of signed constants and one holder's shares, which come with their rounds: a share of that round.
-pub fn combine(p: u16, constants: &[i32], shares: &[u16], rounds: &[u16]) -> Share
+pub fn combine(p: u16, constants: &[i32], shares: &[u16], rounds: &[u16]) -> Result<Share, Refusal>
     ensures { paper_share result ≡ combine_signed_call p constants.now shares.now rounds.now }
 {
-    let first = first_refusal(p, constants);
-    let refusal = base::or_when(first, 3, 64 < constants.len());
-    if refusal != 0 {
-        return Share::Refused(refusal);
-    }
+    check_first(p, constants)?;
+    base::refuse_if(64 < constants.len(), Refusal::Length)?;
     let mut held = [0u16; 64];
     let k = constants.len();
     hold_all(constants, &mut held[..k]);
@@ -152,19 +136,7 @@ pub fn combine(p: u16, constants: &[i32], shares: &[u16], rounds: &[u16]) -> Sha
 fn room_for(len: usize) -> usize
     ensures { result ≡ pick (ltb len 9) len 9 }
 {
-    if len < 9 { len } else { 9 }
-}
-
-// Whether an opening gave the secrets.
-fn answered(opened: Opened) -> bool
-    ensures { result ≡ (paper_opened opened).answered }
-{
-    match opened {
-        Opened::Secrets => true,
-        Opened::Undetermined(_) => false,
-        Opened::Inconsistent => false,
-        Opened::Refused(_) => false,
-    }
+    len.min(9)
 }
 
 // Opens the shares of a set, by rising holder, which come with their rounds, into ℓ corrections.
@@ -175,19 +147,14 @@ pub fn open(
     shares: &[u16],
     rounds: &[u16],
     corrections: &mut [i32],
-) -> Opened
+) -> Result<(), NotOpened>
     ensures result_value { paper_opened result ≡ open_signed_call (setup_of s matrix.now) set shares.now rounds.now corrections.old }
     ensures corrections_after { corrections.new ≡ open_signed_left (setup_of s matrix.now) set shares.now rounds.now corrections.old }
 {
-    if s.p != 65521 {
-        return Opened::Refused(1);
-    }
+    check_field(s.p)?;
     let mut secrets = [0u16; 9];
     let room = room_for(corrections.len());
-    let opened = opening::open(s, matrix, set, shares, rounds, &mut secrets[..room]);
-    if !answered(opened) {
-        return opened;
-    }
+    opening::open(s, matrix, set, shares, rounds, &mut secrets[..room])?;
     read_all(&secrets[..room], corrections);
-    opened
+    Ok(())
 }

@@ -4,15 +4,17 @@
 -- later: the second record has the higher round
 -- superseding_part, is_second: the part that the call returns, and whether it is the second record's
 -- paper_superseding: document 02's number and values for each case of the answer
-use Rattle.std.specs.Prelude.{Bool, not, ◌&&◌, List, [], ◌∷◌, ◌++◌, ℕ, eqb, ltb, take}
+use Rattle.std.specs.Prelude.{Bool, not, ◌&&◌, List, [], ◌∷◌, ◌++◌, ℕ, Result, Ok, Err, eqb, ltb, take}
 use Rattle.base.specs.Choice.{pick}
 use Rattle.base.specs.Rules.{Rule, ◌when◌, refusal, Answer, refused, given, answer_by, left_by}
+use Rattle.base.specs.declared.Refusal.{Refusal}
+use Rattle.base.specs.Refusals.{number}
 use Rattle.scheme.specs.Setup.{Setup}
 use Rattle.scheme.specs.Calls.{table}
 use Rattle.record_layouts.specs.declared.ShareRecord.{ShareRecord}
 use Rattle.record_layouts.specs.Records.{standing_rules, share_layout, share_size, share_at}
 use Rattle.superseding.specs.declared.Superseding.{Superseding}
-use Rattle.superseding.specs.declared.Superseding.TheVariants as superseding
+use Rattle.superseding.specs.declared.Superseding.TheVariants.{First, Second}
 
 -- "two lent SH records of the same dealing, holder and column"; "20, equal rounds and unequal values; 21, records of different shares or of combinations,
 -- before 20". A combination has dealing 0, and a record that is none is of another share
@@ -41,7 +43,7 @@ is_second S a b = eqb (refusal (superseding_rules S a b)) 0 && later (share_at a
 abbrev pub superseding_part : Setup → List ℕ → List ℕ → List ℕ
 superseding_part S a b = left_by (refusal (superseding_rules S a b)) (take share_size (pick (is_second S a b) b a)) []
 
-abbrev pub paper_superseding : Superseding → Answer
-paper_superseding (superseding.First) = given (1 ∷ [])
-paper_superseding (superseding.Second) = given (2 ∷ [])
-paper_superseding (superseding.Refused k) = refused k
+abbrev pub paper_superseding : Result Superseding Refusal → Answer
+paper_superseding (Ok First) = given (1 ∷ [])
+paper_superseding (Ok Second) = given (2 ∷ [])
+paper_superseding (Err k) = refused (number k)

@@ -2,480 +2,391 @@
 // call gave.
 #![tactic(auto)]
 
-const STDOUT_FILENO: i32 = 1;
+use base::Refusal;
+use scheme::{Fate, Judgement, NotOpened, Params, Rehearsal, SetJudgement, Share};
+use std::fmt::{self, Display, Formatter};
+use std::io;
 
-use scheme::{
-    Decided, Fate, Judged, Judgement, Opened, Params, Rehearsal, SetJudged, Settled, Share, Value,
-    Written,
+// The example: the setup of 3 holders over the field of 7, with l 1 and e 1, and its matrix of points.
+const EXAMPLE: Params = Params {
+    p: 7,
+    l: 1,
+    e: 1,
+    n: 3,
 };
 
-fn say(text: &[u8]) {
-    io::write_all(STDOUT_FILENO, text);
-}
+const MATRIX: [u16; 6] = [6, 2, 5, 3, 4, 4];
 
-fn number(x: u16) {
-    say(b" ");
-    io::print_decimal(STDOUT_FILENO, x as u64);
-}
+// What each place that a call may write holds before it.
+const PLACE: u16 = 9;
 
-fn numbers(xs: &[u16]) {
-    let mut i = 0;
-    while i < xs.len() {
-        number(xs[i]);
-        i += 1;
+// Numbers, each behind a space.
+#[derive(Clone, Copy)]
+struct Numbers<'a>(&'a [u16]);
+
+impl Display for Numbers<'_> {
+    fn fmt<W: fmt::Write>(&self, f: &mut Formatter<W>) -> fmt::Result {
+        for x in self.0 {
+            write!(f, " {x}")?;
+        }
+        Ok(())
     }
 }
 
-fn refused(k: u16) {
-    say(b" refused");
-    number(k);
-}
+// A call's answer in words.
+#[derive(Clone, Copy)]
+struct Words<T>(T);
 
-fn written(answer: Written, out: &[u16]) {
-    match answer {
-        Written::Done => say(b" done"),
-        Written::Refused(k) => refused(k),
-    }
-    say(b":");
-    numbers(out);
-    say(b"\n");
-}
-
-fn value(answer: Value) {
-    match answer {
-        Value::Is(x) => number(x),
-        Value::Refused(k) => refused(k),
-    }
-    say(b"\n");
-}
-
-fn shared(answer: Share) {
-    match answer {
-        Share::Is(x, round) => {
-            number(x);
-            say(b", round");
-            number(round);
-        },
-        Share::Refused(k) => refused(k),
-    }
-    say(b"\n");
-}
-
-fn params(p: u16, l: u16, e: u16, n: u16) -> Params {
-    Params {
-        p: p,
-        l: l,
-        e: e,
-        n: n,
+impl<T: Copy> Display for Words<Result<T, Refusal>>
+where
+    Words<T>: Display,
+{
+    fn fmt<W: fmt::Write>(&self, f: &mut Formatter<W>) -> fmt::Result {
+        match self.0 {
+            Ok(answer) => write!(f, "{}", Words(answer)),
+            Err(refusal) => write!(f, "refused {}", refusal.number()),
+        }
     }
 }
 
-fn example() -> Params {
-    params(7, 1, 1, 3)
-}
-
-fn judgement(answer: Judgement) {
-    match answer {
-        Judgement::Accept => say(b" accept\n"),
-        Judgement::Reject(j) => {
-            say(b" reject");
-            number(j);
-            say(b"\n");
-        },
-        Judgement::RejectMap => say(b" reject map\n"),
+impl Display for Words<()> {
+    fn fmt<W: fmt::Write>(&self, f: &mut Formatter<W>) -> fmt::Result {
+        f.write_str("done")
     }
 }
 
-fn judged(answer: Judged) {
-    match answer {
-        Judged::As(j) => judgement(j),
-        Judged::Refused(k) => {
-            refused(k);
-            say(b"\n");
-        },
+impl Display for Words<u16> {
+    fn fmt<W: fmt::Write>(&self, f: &mut Formatter<W>) -> fmt::Result {
+        write!(f, "{}", self.0)
     }
 }
 
-fn fate(answer: Fate, share: u16) {
-    match answer {
-        Fate::Kept => say(b" kept"),
-        Fate::Aborted(i) => {
-            say(b" aborted");
-            number(i);
-        },
-    }
-    say(b":");
-    number(share);
-    say(b"\n");
-}
-
-fn settled(answer: Settled, share: u16) {
-    match answer {
-        Settled::As(f) => fate(f, share),
-        Settled::Refused(k) => {
-            refused(k);
-            say(b"\n");
-        },
+impl Display for Words<bool> {
+    fn fmt<W: fmt::Write>(&self, f: &mut Formatter<W>) -> fmt::Result {
+        f.write_str(if self.0 { "yes" } else { "no" })
     }
 }
 
-fn rehearsed(answer: Rehearsal) {
-    match answer {
-        Rehearsal::Fair => say(b" fair\n"),
-        Rehearsal::Disagree(i, j) => {
-            say(b" disagree");
-            number(i);
-            number(j);
-            say(b"\n");
-        },
-        Rehearsal::Refused(k) => {
-            refused(k);
-            say(b"\n");
-        },
+impl Display for Words<Share> {
+    fn fmt<W: fmt::Write>(&self, f: &mut Formatter<W>) -> fmt::Result {
+        let share = self.0;
+        write!(f, "{}, round {}", share.value, share.round)
     }
 }
 
-fn decided(answer: Decided) {
-    match answer {
-        Decided::Yes => say(b" yes\n"),
-        Decided::No => say(b" no\n"),
-        Decided::Refused(k) => {
-            refused(k);
-            say(b"\n");
-        },
+impl Display for Words<Judgement> {
+    fn fmt<W: fmt::Write>(&self, f: &mut Formatter<W>) -> fmt::Result {
+        match self.0 {
+            Judgement::Accept => f.write_str("accept"),
+            Judgement::Reject(j) => write!(f, "reject {j}"),
+            Judgement::RejectMap => f.write_str("reject map"),
+        }
     }
 }
 
-fn opened(answer: Opened, secret: u16) {
-    match answer {
-        Opened::Secrets => say(b" secrets"),
-        Opened::Undetermined(q) => {
-            say(b" 6 at position");
-            number(q);
-        },
-        Opened::Inconsistent => say(b" 7"),
-        Opened::Refused(k) => refused(k),
+impl Display for Words<Fate> {
+    fn fmt<W: fmt::Write>(&self, f: &mut Formatter<W>) -> fmt::Result {
+        match self.0 {
+            Fate::Kept => f.write_str("kept"),
+            Fate::Aborted(i) => write!(f, "aborted {i}"),
+        }
     }
-    say(b":");
-    number(secret);
-    say(b"\n");
 }
 
-fn judged_as(kind: &[u8], steps: u16) {
-    say(kind);
-    say(b", row steps");
-    number(steps);
-}
-
-fn set_judged(answer: SetJudged, found: &[u16]) {
-    match answer {
-        SetJudged::Row(k) => judged_as(b" row", k),
-        SetJudged::Vector(k) => judged_as(b" vector", k),
-        SetJudged::Neither(k) => judged_as(b" neither", k),
-        SetJudged::Refused(k) => refused(k),
+impl Display for Words<Rehearsal> {
+    fn fmt<W: fmt::Write>(&self, f: &mut Formatter<W>) -> fmt::Result {
+        match self.0 {
+            Rehearsal::Fair => f.write_str("fair"),
+            Rehearsal::Disagree(i, j) => write!(f, "disagree {i} {j}"),
+        }
     }
-    say(b":");
-    numbers(found);
-    say(b"\n");
 }
 
-// Matrices from points: of the example, at the last n that p 7 has points for, and one holder above it.
-fn points() {
-    let mut of_3 = [9u16; 6];
-    let mut of_5 = [9u16; 10];
-    let mut of_6 = [9u16; 12];
-    say(b"points of 3 holders");
-    let a = points::points(example(), &mut of_3);
-    written(a, &of_3);
-    say(b"points of 5 holders");
-    let b = points::points(params(7, 1, 1, 5), &mut of_5);
-    written(b, &of_5);
-    say(b"points of 6 holders");
-    let c = points::points(params(7, 1, 1, 6), &mut of_6);
-    written(c, &of_6);
+impl Display for Words<Result<(), NotOpened>> {
+    fn fmt<W: fmt::Write>(&self, f: &mut Formatter<W>) -> fmt::Result {
+        match self.0 {
+            Ok(()) => f.write_str("secrets"),
+            Err(NotOpened::Undetermined(q)) => write!(f, "6 at position {q}"),
+            Err(NotOpened::Inconsistent) => f.write_str("7"),
+            Err(NotOpened::Refused(refusal)) => write!(f, "refused {}", refusal.number()),
+        }
+    }
+}
+
+impl Display for Words<SetJudgement> {
+    fn fmt<W: fmt::Write>(&self, f: &mut Formatter<W>) -> fmt::Result {
+        match self.0 {
+            SetJudgement::Row(steps) => write!(f, "row, row steps {steps}"),
+            SetJudgement::Vector(steps) => write!(f, "vector, row steps {steps}"),
+            SetJudgement::Neither(steps) => write!(f, "neither, row steps {steps}"),
+        }
+    }
+}
+
+// A matrix from points, with the numbers of the example but for n, into the lent one.
+fn points(rt: &impl Print, n: u16, matrix: &mut [u16]) -> io::Result<()> {
+    let answer = points::points(Params { n, ..EXAMPLE }, matrix);
+    println!(rt;
+        "points of {n} holders {}:{}",
+        Words(answer),
+        Numbers(matrix)
+    )
 }
 
 // The parts of F rows (3, 1), (5, 2), with one of its entries given.
-fn parts(secret: u16, holder: u16) {
-    say(b"secret");
-    number(secret);
-    say(b", g and h of holder");
-    number(holder);
-    let mut g = [9u16; 2];
-    let mut h = [9u16; 2];
+fn parts(rt: &impl Print, secret: u16, holder: u16) -> io::Result<()> {
+    let mut g = [PLACE; 2];
+    let mut h = [PLACE; 2];
     let answer = dealing::deal(
-        example(),
-        &[6, 2, 5, 3, 4, 4],
+        EXAMPLE,
+        &MATRIX,
         &[secret],
         &[1, 5, 2],
         holder,
         &mut g,
         &mut h,
     );
-    written(answer, &[g[0], g[1], h[0], h[1]]);
+    println!(rt;
+        "secret {secret}, g and h of holder {holder} {}:{}{}",
+        Words(answer),
+        Numbers(&g),
+        Numbers(&h)
+    )
 }
 
 // All the parts of one dealing in one call, and the dealer's rehearsal of them and of one that lies.
-fn all_parts() {
-    let mut gs = [9u16; 6];
-    let mut hs = [9u16; 6];
-    let answer = dealing::deal_all(
-        example(),
-        &[6, 2, 5, 3, 4, 4],
-        &[3],
-        &[1, 5, 2],
-        &mut gs,
-        &mut hs,
-    );
-    say(b"g of all");
-    written(answer, &gs);
-    say(b"h of all");
-    written(answer, &hs);
-    say(b"rehearsal");
-    rehearsed(judging::rehearse(example(), &[6, 2, 5, 3, 4, 4], &gs, &hs));
+fn all_parts(rt: &impl Print) -> io::Result<()> {
+    let mut gs = [PLACE; 6];
+    let mut hs = [PLACE; 6];
+    let answer = dealing::deal_all(EXAMPLE, &MATRIX, &[3], &[1, 5, 2], &mut gs, &mut hs);
+    println!(rt; "g of all {}:{}", Words(answer), Numbers(&gs))?;
+    println!(rt; "h of all {}:{}", Words(answer), Numbers(&hs))?;
+    let fair = judging::rehearse(EXAMPLE, &MATRIX, &gs, &hs);
+    println!(rt; "rehearsal {}", Words(fair))?;
     gs[5] = 6;
-    say(b"rehearsal with another g of holder 2");
-    rehearsed(judging::rehearse(example(), &[6, 2, 5, 3, 4, 4], &gs, &hs));
+    let lying = judging::rehearse(EXAMPLE, &MATRIX, &gs, &hs);
+    println!(rt; "rehearsal with another g of holder 2 {}", Words(lying))
 }
 
 // The value to holder 1 from the holder with this g.
-fn pair_value(g0: u16, g1: u16) {
-    say(b"pair value to holder 1 from g");
-    number(g0);
-    number(g1);
-    say(b":");
-    value(judging::pair_value(example(), &[6, 2, 5, 3, 4, 4], &[g0, g1], 1));
+fn pair_value(rt: &impl Print, g: &[u16]) -> io::Result<()> {
+    let answer = judging::pair_value(EXAMPLE, &MATRIX, g, 1);
+    println!(rt;
+        "pair value to holder 1 from g{}: {}",
+        Numbers(g),
+        Words(answer)
+    )
 }
 
 // The judgement of holder 1 on these values.
-fn judge(a: u16, b: u16, c: u16) {
-    say(b"holder 1 judges");
-    numbers(&[a, b, c]);
-    say(b":");
-    judged(judging::judge(example(), &[6, 2, 5, 3, 4, 4], &[4, 3], &[a, b, c]));
+fn judge(rt: &impl Print, values: &[u16]) -> io::Result<()> {
+    let answer = judging::judge(EXAMPLE, &MATRIX, &[4, 3], values);
+    println!(rt; "holder 1 judges{}: {}", Numbers(values), Words(answer))
 }
 
 // The outcome at holder 1 under these verdicts.
-fn outcome(a: u16, b: u16, c: u16) {
-    say(b"outcome of verdicts");
-    numbers(&[a, b, c]);
-    say(b":");
-    let mut share = [9u16; 1];
-    let answer = outcomes::outcome(example(), &[2, 4], &[a, b, c], &mut share);
-    settled(answer, share[0]);
+fn outcome(rt: &impl Print, verdicts: &[u16]) -> io::Result<()> {
+    let mut share = [PLACE];
+    let answer = outcomes::outcome(EXAMPLE, &[2, 4], verdicts, &mut share);
+    print!(rt; "outcome of verdicts{}: ", Numbers(verdicts))?;
+    match answer {
+        Ok(fate) => println!(rt; "{}:{}", Words(fate), Numbers(&share)),
+        Err(refusal) => println!(rt; "refused {}", refusal.number()),
+    }
 }
 
 // A combination of one holder's shares, which come with their rounds.
-fn combine(constants: &[u16], shares: &[u16], rounds: &[u16]) {
-    say(b"constants");
-    numbers(constants);
-    say(b" and shares");
-    numbers(shares);
-    say(b", rounds");
-    numbers(rounds);
-    say(b":");
-    shared(combining::combine(7, constants, shares, rounds));
+fn combine(rt: &impl Print, constants: &[u16], shares: &[u16], rounds: &[u16]) -> io::Result<()> {
+    let answer = combining::combine(7, constants, shares, rounds);
+    println!(rt;
+        "constants{} and shares{}, rounds{}: {}",
+        Numbers(constants),
+        Numbers(shares),
+        Numbers(rounds),
+        Words(answer)
+    )
 }
 
 // An opening by a set of the example's holders that hands in these shares of these rounds.
-fn open(set: u16, shares: &[u16], rounds: &[u16]) {
-    say(b"set");
-    number(set);
-    say(b" opens");
-    numbers(shares);
-    say(b", rounds");
-    numbers(rounds);
-    say(b":");
-    let mut secret = [9u16; 1];
-    let answer = opening::open(
-        example(),
-        &[6, 2, 5, 3, 4, 4],
-        set as u32,
-        shares,
-        rounds,
-        &mut secret,
-    );
-    opened(answer, secret[0]);
+fn open(rt: &impl Print, set: u32, shares: &[u16], rounds: &[u16]) -> io::Result<()> {
+    let mut secret = [PLACE];
+    let answer = opening::open(EXAMPLE, &MATRIX, set, shares, rounds, &mut secret);
+    println!(rt;
+        "set {set} opens{}, rounds{}: {}:{}",
+        Numbers(shares),
+        Numbers(rounds),
+        Words(answer),
+        Numbers(&secret)
+    )
 }
 
 // The parts of a zero dealing, F rows (0, 0), (2, 5).
-fn zero_parts(holder: u16) {
-    say(b"zeros, g and h of holder");
-    number(holder);
-    let mut g = [9u16; 2];
-    let mut h = [9u16; 1];
-    let answer = zero_dealing::deal_zero(
-        example(),
-        &[6, 2, 5, 3, 4, 4],
-        &[2, 5],
-        holder,
-        &mut g,
-        &mut h,
-    );
-    written(answer, &[g[0], g[1], h[0]]);
+fn zero_parts(rt: &impl Print, holder: u16) -> io::Result<()> {
+    let mut g = [PLACE; 2];
+    let mut h = [PLACE];
+    let answer = zero_dealing::deal_zero(EXAMPLE, &MATRIX, &[2, 5], holder, &mut g, &mut h);
+    println!(rt;
+        "zeros, g and h of holder {holder} {}:{}{}",
+        Words(answer),
+        Numbers(&g),
+        Numbers(&h)
+    )
 }
 
 // All its parts in one call.
-fn all_zero_parts() {
-    let mut gs = [9u16; 6];
-    let mut hs = [9u16; 3];
-    let answer = zero_dealing::deal_zero_all(
-        example(),
-        &[6, 2, 5, 3, 4, 4],
-        &[2, 5],
-        &mut gs,
-        &mut hs,
-    );
-    say(b"zeros, g of all");
-    written(answer, &gs);
-    say(b"zeros, h of all");
-    written(answer, &hs);
+fn all_zero_parts(rt: &impl Print) -> io::Result<()> {
+    let mut gs = [PLACE; 6];
+    let mut hs = [PLACE; 3];
+    let answer = zero_dealing::deal_zero_all(EXAMPLE, &MATRIX, &[2, 5], &mut gs, &mut hs);
+    println!(rt; "zeros, g of all {}:{}", Words(answer), Numbers(&gs))?;
+    println!(rt; "zeros, h of all {}:{}", Words(answer), Numbers(&hs))
 }
 
 // The judgement of holder 1 on these values of the zero dealing.
-fn judge_zero(a: u16, b: u16, c: u16) {
-    say(b"zeros, holder 1 judges");
-    numbers(&[a, b, c]);
-    say(b":");
-    judged(zero_dealing::judge_zero(example(), &[6, 2, 5, 3, 4, 4], &[4], &[a, b, c]));
+fn judge_zero(rt: &impl Print, values: &[u16]) -> io::Result<()> {
+    let answer = zero_dealing::judge_zero(EXAMPLE, &MATRIX, &[4], values);
+    println!(rt;
+        "zeros, holder 1 judges{}: {}",
+        Numbers(values),
+        Words(answer)
+    )
 }
 
 // A share of a round refreshed by a zero share.
-fn refresh(share: u16, round: u16, zero: u16) {
-    say(b"share");
-    number(share);
-    say(b", round");
-    number(round);
-    say(b", and zero share");
-    number(zero);
-    say(b":");
-    shared(combining::refresh(7, share, round, zero));
+fn refresh(rt: &impl Print, share: u16, round: u16, zero: u16) -> io::Result<()> {
+    let answer = combining::refresh(7, share, round, zero);
+    println!(rt;
+        "share {share}, round {round}, and zero share {zero}: {}",
+        Words(answer)
+    )
 }
 
 // What a set is on the example's matrix.
-fn set_of_example(set: u16) {
-    say(b"set");
-    number(set);
-    say(b" determines:");
-    decided(set_questions::determines(example(), &[6, 2, 5, 3, 4, 4], set as u32));
-    say(b"set");
-    number(set);
-    say(b" is private:");
-    decided(set_questions::private(example(), &[6, 2, 5, 3, 4, 4], set as u32));
-    say(b"set");
-    number(set);
-    say(b" at position 0:");
-    let mut found = [9u16; 32];
-    let answer = set_questions::judge_set(
-        example(),
-        &[6, 2, 5, 3, 4, 4],
-        set as u32,
-        0,
-        &mut found,
-    );
-    set_judged(answer, &found);
+fn set_of_example(rt: &impl Print, set: u32) -> io::Result<()> {
+    let determines = set_questions::determines(EXAMPLE, &MATRIX, set);
+    println!(rt; "set {set} determines: {}", Words(determines))?;
+    let private = set_questions::private(EXAMPLE, &MATRIX, set);
+    println!(rt; "set {set} is private: {}", Words(private))?;
+    let mut found = [PLACE; 32];
+    let judged = set_questions::judge_set(EXAMPLE, &MATRIX, set, 0, &mut found);
+    println!(rt;
+        "set {set} at position 0: {}:{}",
+        Words(judged),
+        Numbers(&found)
+    )
 }
 
 // One holder with the row (1, 1, 0), l 2 and e 1.
-fn neither(position: u16) {
-    say(b"row (1, 1, 0) at position");
-    number(position);
-    say(b":");
-    let mut found = [9u16; 32];
-    let answer = set_questions::judge_set(params(7, 2, 1, 1), &[1, 1, 0], 1, position, &mut found);
-    set_judged(answer, &found);
+fn neither(rt: &impl Print, position: u16) -> io::Result<()> {
+    let setup = Params {
+        p: 7,
+        l: 2,
+        e: 1,
+        n: 1,
+    };
+    let mut found = [PLACE; 32];
+    let judged = set_questions::judge_set(setup, &[1, 1, 0], 1, position, &mut found);
+    println!(rt;
+        "row (1, 1, 0) at position {position}: {}:{}",
+        Words(judged),
+        Numbers(&found)
+    )
 }
 
-fn dealings() {
-    points();
-    parts(3, 0);
-    parts(3, 1);
-    parts(3, 2);
-    parts(3, 3);
-    parts(6, 0);
-    parts(7, 0);
-    all_parts();
+// Matrices from points are of the example, at the last n that p 7 has points for, and one holder above it.
+fn dealings(rt: &impl Print) -> io::Result<()> {
+    points(rt, 3, &mut [PLACE; 6])?;
+    points(rt, 5, &mut [PLACE; 10])?;
+    points(rt, 6, &mut [PLACE; 12])?;
+    for (secret, holder) in [(3, 0), (3, 1), (3, 2), (3, 3), (6, 0), (7, 0)] {
+        parts(rt, secret, holder)?;
+    }
+    all_parts(rt)
 }
 
-fn judgements() {
-    pair_value(0, 3);
-    pair_value(2, 4);
-    pair_value(4, 5);
-    pair_value(4, 7);
-    judge(2, 1, 0);
-    judge(3, 1, 0);
-    judge(2, 1, 7);
-    outcome(1, 1, 1);
-    outcome(1, 0, 0);
-    outcome(1, 1, 2);
+fn judgements(rt: &impl Print) -> io::Result<()> {
+    for g in [[0, 3], [2, 4], [4, 5], [4, 7]] {
+        pair_value(rt, &g)?;
+    }
+    for values in [[2, 1, 0], [3, 1, 0], [2, 1, 7]] {
+        judge(rt, &values)?;
+    }
+    for verdicts in [[1, 1, 1], [1, 0, 0], [1, 1, 2]] {
+        outcome(rt, &verdicts)?;
+    }
+    Ok(())
 }
 
-fn openings() {
-    combine(&[2], &[0], &[0]);
-    combine(&[2], &[2], &[0]);
-    combine(&[2], &[4], &[0]);
-    combine(&[], &[], &[]);
-    open(5, &[0, 4], &[0, 0]);
-    open(7, &[0, 2, 4], &[0, 0, 0]);
-    open(7, &[0, 2, 5], &[0, 0, 0]);
-    open(7, &[0, 4, 1], &[0, 0, 0]);
-    open(1, &[0], &[0]);
-    open(0, &[], &[]);
-    open(8, &[0], &[0]);
-    open(7, &[0, 2], &[0, 0]);
+fn openings(rt: &impl Print) -> io::Result<()> {
+    combine(rt, &[2], &[0], &[0])?;
+    combine(rt, &[2], &[2], &[0])?;
+    combine(rt, &[2], &[4], &[0])?;
+    combine(rt, &[], &[], &[])?;
+    open(rt, 5, &[0, 4], &[0, 0])?;
+    open(rt, 7, &[0, 2, 4], &[0, 0, 0])?;
+    open(rt, 7, &[0, 2, 5], &[0, 0, 0])?;
+    open(rt, 7, &[0, 4, 1], &[0, 0, 0])?;
+    open(rt, 1, &[0], &[0])?;
+    open(rt, 0, &[], &[])?;
+    open(rt, 8, &[0], &[0])?;
+    open(rt, 7, &[0, 2], &[0, 0])
 }
 
-fn sets() {
-    set_of_example(5);
-    set_of_example(7);
-    set_of_example(1);
-    set_of_example(0);
-    set_of_example(8);
-    neither(0);
-    neither(1);
-    neither(2);
+fn sets(rt: &impl Print) -> io::Result<()> {
+    for set in [5, 7, 1, 0, 8] {
+        set_of_example(rt, set)?;
+    }
+    for position in 0..3 {
+        neither(rt, position)?;
+    }
+    Ok(())
 }
 
-fn zeros() {
-    zero_parts(0);
-    zero_parts(1);
-    zero_parts(2);
-    zero_parts(3);
-    all_zero_parts();
-    pair_value(4, 3);
-    pair_value(6, 1);
-    pair_value(1, 6);
-    judge_zero(1, 5, 2);
-    judge_zero(1, 5, 3);
-    judge_zero(1, 5, 7);
+fn zeros(rt: &impl Print) -> io::Result<()> {
+    for holder in 0..4 {
+        zero_parts(rt, holder)?;
+    }
+    all_zero_parts(rt)?;
+    for g in [[4, 3], [6, 1], [1, 6]] {
+        pair_value(rt, &g)?;
+    }
+    for values in [[1, 5, 2], [1, 5, 3], [1, 5, 7]] {
+        judge_zero(rt, &values)?;
+    }
+    Ok(())
 }
 
-fn refreshes() {
-    refresh(0, 0, 4);
-    refresh(2, 0, 6);
-    refresh(4, 0, 1);
-    refresh(4, 65534, 6);
-    refresh(4, 65535, 6);
-    refresh(7, 65535, 6);
+fn refreshes(rt: &impl Print) -> io::Result<()> {
+    for (share, round, zero) in [
+        (0, 0, 4),
+        (2, 0, 6),
+        (4, 0, 1),
+        (4, 65534, 6),
+        (4, 65535, 6),
+        (7, 65535, 6),
+    ] {
+        refresh(rt, share, round, zero)?;
+    }
+    Ok(())
 }
 
 // The refreshed shares, alone and beside old ones.
-fn next_round() {
-    open(5, &[4, 5], &[1, 1]);
-    open(7, &[4, 1, 5], &[1, 1, 1]);
-    open(5, &[4, 4], &[1, 0]);
-    open(7, &[4, 2, 5], &[1, 0, 1]);
-    open(7, &[4, 1, 5], &[1, 1]);
-    combine(&[2, 1], &[4, 0], &[1, 1]);
-    combine(&[2, 1], &[4, 0], &[1, 0]);
+fn next_round(rt: &impl Print) -> io::Result<()> {
+    open(rt, 5, &[4, 5], &[1, 1])?;
+    open(rt, 7, &[4, 1, 5], &[1, 1, 1])?;
+    open(rt, 5, &[4, 4], &[1, 0])?;
+    open(rt, 7, &[4, 2, 5], &[1, 0, 1])?;
+    open(rt, 7, &[4, 1, 5], &[1, 1])?;
+    combine(rt, &[2, 1], &[4, 0], &[1, 1])?;
+    combine(rt, &[2, 1], &[4, 0], &[1, 0])
 }
 
-fn main() {
-    dealings();
-    judgements();
-    openings();
-    sets();
-    zeros();
-    refreshes();
-    next_round();
+fn main(rt: HostRuntime) -> io::Result<()> {
+    dealings(&rt)?;
+    judgements(&rt)?;
+    openings(&rt)?;
+    sets(&rt)?;
+    zeros(&rt)?;
+    refreshes(&rt)?;
+    next_round(&rt)
 }

@@ -4,6 +4,7 @@
 
 ghost use Rattle.std.specs.Prelude.{◌≡◌, [], ◌∷◌, ◌+◌, ◌*◌, replicate};
 ghost use Rattle.base.specs.Rules.{refusal};
+ghost use Rattle.base.specs.Refusals.{refused_by};
 ghost use Rattle.base.specs.Fill.{filled};
 ghost use Rattle.base.specs.Matrix.{flat};
 ghost use Rattle.scheme.specs.Setup.{setup_of};
@@ -13,7 +14,8 @@ ghost use Rattle.scheme.specs.Calls.{table, elements, room, deal_zero_call, deal
 ghost use Rattle.dealing.specs.Inner.{sized};
 ghost use Rattle.zero_dealing.specs.Inner.{ZeroRoom, LastRoom, last_of};
 
-use scheme::{Judged, Judgement, Params, Written};
+use base::Refusal;
+use scheme::{Judgement, Params};
 
 // F
 // F by rows, into the first d * d places of zeros: the first ℓ rows stay as they are, and the rows below are the random entries.
@@ -29,7 +31,7 @@ fn fill_zero(s: Params, random: &[u16], f: &mut [u16])
 
 // DEAL ZERO
 // Refusals 1 to 4 of both calls, with the lengths of the two buffers, which need `row` and `column` entries.
-fn lent_refusal(
+fn check_lent(
     s: Params,
     matrix: &[u16],
     random: &[u16],
@@ -37,15 +39,15 @@ fn lent_refusal(
     row: usize,
     h: usize,
     column: usize,
-) -> u16
-    ensures { result ≡ refusal (table (setup_of s matrix.now) (elements matrix.now (s.n * (s.l + s.e)) ∷ elements random.now (s.e * (s.l + s.e)) ∷ room g row ∷ room h column ∷ []) []) }
+) -> Result<(), Refusal>
+    ensures { refused_by result ≡ refusal (table (setup_of s matrix.now) (elements matrix.now (s.n * (s.l + s.e)) ∷ elements random.now (s.e * (s.l + s.e)) ∷ room g row ∷ room h column ∷ []) []) }
 {
-    let a = scheme::limits_and_matrix(s, matrix.len());
-    let b = scheme::or_size(a, random.len(), (s.e as usize) * s.dim());
-    let c = scheme::or_size(b, g, row);
-    let d = scheme::or_size(c, h, column);
-    let e = scheme::or_elements(d, s.p, matrix);
-    scheme::or_elements(e, s.p, random)
+    scheme::check_matrix_len(s, matrix.len())?;
+    scheme::check_size(random.len(), (s.e as usize) * s.dim())?;
+    scheme::check_size(g, row)?;
+    scheme::check_size(h, column)?;
+    scheme::check_elements(s.p, matrix)?;
+    scheme::check_elements(s.p, random)
 }
 
 // A holder's part of a zero dealing: the whole column is worked out, and its last e entries are the holder's h.
@@ -56,7 +58,7 @@ pub fn deal_zero(
     holder: u16,
     g: &mut [u16],
     h: &mut [u16],
-) -> Written
+) -> Result<(), Refusal>
     ensures result_value { paper_written result ≡ deal_zero_call (setup_of s matrix.now) random.now holder g.old h.old }
     ensures g_after { g.new ≡ deal_zero_left_g (setup_of s matrix.now) random.now holder g.old h.old }
     ensures h_after { h.new ≡ deal_zero_left_h (setup_of s matrix.now) random.now holder g.old h.old }
@@ -64,17 +66,14 @@ pub fn deal_zero(
     let l = s.l as usize;
     let e = s.e as usize;
     let d = l + e;
-    let lent = lent_refusal(s, matrix, random, g.len(), d, h.len(), e);
-    let refusal = base::or_when(lent, 5, s.n <= holder);
-    if refusal != 0 {
-        return Written::Refused(refusal);
-    }
+    check_lent(s, matrix, random, g.len(), d, h.len(), e)?;
+    base::refuse_if(s.n <= holder, Refusal::Range)?;
     let mut f = [0u16; 256];
     fill_zero(s, random, &mut f);
     let mut column = [0u16; 16];
     dealing::write_part(s, matrix, &f, holder, g, &mut column[..d]);
     base::copy(h, 0, &column, l, e);
-    Written::Done
+    Ok(())
 }
 
 // DEAL ZERO TO ALL
@@ -84,10 +83,8 @@ fn keep_last(n: usize, l: usize, e: usize, columns: &[u16], hs: &mut [u16])
     ensures { hs.new ≡ filled (flat e (last_of l e columns.now)) (n * e) hs.old }
 {
     let d = l + e;
-    let mut i = 0;
-    while i < n {
+    for i in 0..n {
         base::copy(hs, i * e, columns, i * d + l, e);
-        i += 1;
     }
 }
 
@@ -98,7 +95,7 @@ pub fn deal_zero_all(
     random: &[u16],
     gs: &mut [u16],
     hs: &mut [u16],
-) -> Written
+) -> Result<(), Refusal>
     ensures result_value { paper_written result ≡ deal_zero_all_call (setup_of s matrix.now) random.now gs.old hs.old }
     ensures gs_after { gs.new ≡ deal_zero_all_left_g (setup_of s matrix.now) random.now gs.old hs.old }
     ensures hs_after { hs.new ≡ deal_zero_all_left_h (setup_of s matrix.now) random.now gs.old hs.old }
@@ -108,28 +105,25 @@ pub fn deal_zero_all(
     let e = s.e as usize;
     let d = l + e;
     let len = n * d;
-    let refusal = lent_refusal(s, matrix, random, gs.len(), len, hs.len(), n * e);
-    if refusal != 0 {
-        return Written::Refused(refusal);
-    }
+    check_lent(s, matrix, random, gs.len(), len, hs.len(), n * e)?;
     let mut f = [0u16; 256];
     fill_zero(s, random, &mut f);
     let mut columns = [0u16; 512];
     parts::write_all(s.p, d, n, matrix, &f, gs, &mut columns[..len]);
     keep_last(n, l, e, &columns, hs);
-    Written::Done
+    Ok(())
 }
 
 // JUDGE ZERO
-fn judge_zero_refusal(s: Params, matrix: &[u16], h: &[u16], values: &[u16]) -> u16
-    ensures { result ≡ refusal (judge_zero_rules (setup_of s matrix.now) h.now values.now) }
+fn check_judge_zero(s: Params, matrix: &[u16], h: &[u16], values: &[u16]) -> Result<(), Refusal>
+    ensures { refused_by result ≡ refusal (judge_zero_rules (setup_of s matrix.now) h.now values.now) }
 {
-    let a = scheme::limits_and_matrix(s, matrix.len());
-    let b = scheme::or_size(a, h.len(), s.e as usize);
-    let c = scheme::or_size(b, values.len(), s.n as usize);
-    let d = scheme::or_elements(c, s.p, matrix);
-    let e = scheme::or_elements(d, s.p, h);
-    scheme::or_elements(e, s.p, values)
+    scheme::check_matrix_len(s, matrix.len())?;
+    scheme::check_size(h.len(), s.e as usize)?;
+    scheme::check_size(values.len(), s.n as usize)?;
+    scheme::check_elements(s.p, matrix)?;
+    scheme::check_elements(s.p, h)?;
+    scheme::check_elements(s.p, values)
 }
 
 // A holder's judgement of the n values it received in a zero dealing, on its column part h, from inputs that are in order: h with the ℓ zeros before it that
@@ -147,12 +141,14 @@ pub fn judgement_zero(s: Params, matrix: &[u16], h: &[u16], values: &[u16]) -> J
 }
 
 // That judgement, or what refuses the inputs.
-pub fn judge_zero(s: Params, matrix: &[u16], h: &[u16], values: &[u16]) -> Judged
+pub fn judge_zero(
+    s: Params,
+    matrix: &[u16],
+    h: &[u16],
+    values: &[u16],
+) -> Result<Judgement, Refusal>
     ensures { paper_judged result ≡ judge_zero_call (setup_of s matrix.now) h.now values.now }
 {
-    let refusal = judge_zero_refusal(s, matrix, h, values);
-    if refusal != 0 {
-        return Judged::Refused(refusal);
-    }
-    Judged::As(judgement_zero(s, matrix, h, values))
+    check_judge_zero(s, matrix, h, values)?;
+    Ok(judgement_zero(s, matrix, h, values))
 }

@@ -1,19 +1,14 @@
--- All the rounds one number, or the mark `apart` is 0 exactly while the rounds of every column passed agree.
-use Prim.Native.Nat.{ℕ}
-use mathlib.Core.Path.{◌≡◌, sym, ap, ◌∙◌}
-use mathlib.Core.Bool.{Bool, not}
+-- All the rounds are one number, or the rounds of every column passed agree.
+use mathlib.Core.Path.{sym, ap, ◌∙◌}
+use mathlib.Core.Bool.{not}
+use borrow.Author.Count.{below_more}
 use native.Mathlib.Omega.{arith}
-use borrow.Author.Rules.{rules}
-use borrow.Author.Tests.{not-true, not-false}
-use Rattle.base.specs.Search.{every}
 use Rattle.base.specs.Fill.{tab}
 use Rattle.base.specs.Matrix.{entry, all_are}
-use Rattle.base.proofs.Search.{every-passed, every-failed}
-use Rattle.base.proofs.Matrix.{row_fits}
 use Rattle.scheme.specs.Opening.{agree}
-use Rattle.board_keys.proofs.Rounds.{one-round}
+use Rattle.base.proofs.Search.{every-all, every-fails}
+use Rattle.board_keys.proofs.Rounds.{one-round, column-agrees}
 use Rattle.board_keys.proofs.columns_apart.Goals as goal
-use Rattle.board_keys.proofs.columns_apart.Goals.{then-column_apart, else-column_apart}
 
 pub returns-then-all_are : goal.returns-then-all_are
 returns-then-all_are c =
@@ -21,30 +16,21 @@ returns-then-all_are c =
     let one = ap (λ r. all_are r x.rounds.now) (sym c.round_of.ensures) ∙ sym c.all_are.ensures ∙ c.if-all_are.true in
     sym (ap not (one-round x.k x.rounds.now c.requires.0 one))
 
-pub loop-b-init : goal.loop-b-init
-unfolding every
-loop-b-init c = search rules
-
-pub overflow_mul-b : goal.overflow_mul-b
-overflow_mul-b c =
-    omega (arith, c.requires.1, row_fits 4 c.args.k c.loop-b.b c.loop-b-test.true)
-
-pub column_apart-requires : goal.column_apart-requires
-column_apart-requires c =
-    omega (arith, c.requires.0, row_fits 4 c.args.k c.loop-b.b c.loop-b-test.true)
+pub returns-then-not-all_are : goal.returns-then-not-all_are
+returns-then-not-all_are c =
+    let x = c.args in
+    let b = c.loop-b.b in
+    let e = column-agrees x.k b x.rounds.now _ _ c.requires.0 c.loop-b-test.true c.round_of-in-loop-b.ensures c.all_are-in-loop-b.ensures in
+    sym (ap not (every-fails 4 (λ b. agree (tab x.k (entry x.k x.rounds.now b))) b c.loop-b-test.true (sym e ∙ c.if-not-all_are.true)))
 
 pub loop-b-preserved : goal.loop-b-preserved
 loop-b-preserved c =
     let x = c.args in
-    let t : ℕ → Bool = λ b. agree (tab x.k (entry x.k x.rounds.now b)) in (
-      search rules,
-      elim c.if-column_apart.branch [
-        | then-column_apart w ↦ every-failed t c.loop-b.b c.if-column_apart.apart (not-true _ (sym c.column_apart.ensures ∙ w.if-column_apart.true)) w.apart-is
-        | else-column_apart w ↦ rw w.apart-is (every-passed t c.loop-b.b c.loop-b.apart (not-false _ (sym c.column_apart.ensures ∙ w.if-column_apart.false)) c.loop-b.invariant.1)
-      ],
-    )
+    let b = c.loop-b.b in
+    let e = column-agrees x.k b x.rounds.now _ _ c.requires.0 c.loop-b-test.true c.round_of-in-loop-b.ensures c.all_are-in-loop-b.ensures in
+    below_more _ _ c.loop-b.invariant (sym e ∙ c.if-not-all_are.false)
 
 pub returns : goal.returns
 returns c =
-    let e : c.loop-b.b ≡ 4 = omega arith in
-    ap not (rw e at c.loop-b.invariant.1)
+    let x = c.args in
+    sym (ap not (every-all 4 (λ b. agree (tab x.k (entry x.k x.rounds.now b))) (λ b l. c.loop-b.invariant b (omega arith))))

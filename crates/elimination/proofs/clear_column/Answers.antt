@@ -1,110 +1,63 @@
--- The loop clears row by row, as the definition does, where t is the start of row r; entries stay below p, and a row is counted as it was before the column.
-use Prim.Native.Nat.{ℕ, suc, ◌-◌, ◌*◌, ◌<◌}
-use mathlib.Core.Path.{◌≡◌, refl, ap, ◌∙◌}
-use mathlib.Core.Logic.{inl, inr, ⊎_elim}
+-- The loop clears row by row, as the definition does; entries stay below p, and a row is counted as it was before the column.
+use Prim.Native.Nat.{ℕ, ◌+◌}
+use mathlib.Core.Path.{refl, ◌∙◌, subst}
 use native.Mathlib.Omega.{arith}
-use lib.ListN.{length}
-use Rattle.base.specs.Matrix.{entry, Below}
+use Rattle.base.specs.Matrix.{entry}
 use Rattle.base.specs.Sum.{sum}
-use Rattle.base.proofs.Matrix.{row_fits, rows_apart, row_inside, row-past}
+use Rattle.base.proofs.Matrix.{row_inside, row-past}
 use Rattle.gauss.specs.Gauss.{others}
 use Rattle.gauss.proofs.Steps.{others-le}
-use Rattle.row_steps.specs.Rows.{add_row}
-use Rattle.elimination.specs.Elimination.{clear_to}
-use Rattle.elimination.specs.Inner.{other_entry}
-use Rattle.elimination.proofs.Flat.{clear-start, other_row, other-below, row-passed, row-cleared, length-clear, rows-below, rows_step, count-step}
+use Rattle.elimination.specs.Inner.{ColumnCleared}
+use Rattle.elimination.proofs.Flat.{clear-start, row_passed, row_taken, other-below, rows-below}
 use Rattle.elimination.proofs.clear_column.Goals as goal
 use Rattle.elimination.proofs.clear_column.Goals.{then-f-ne0, else-f-ne0}
 
-pub overflow_mul-q : goal.overflow_mul-q
-overflow_mul-q c = let x = c.args in omega (arith, row_fits x.rows x.width x.k (omega arith))
-
 pub loop-t-init : goal.loop-t-init
 unfolding others sum
-loop-t-init c = (0, omega arith, omega arith, clear-start _ _ _ _ _, refl)
-
-pub other_entry-f-requires : goal.other_entry-f-requires
-other_entry-f-requires c =
-    let size : length c.loop-t.a ≡ length c.args.a.now = let x = c.args in
-    ap length c.loop-t.invariant.3 ∙ length-clear x.p x.width x.k x.col c.loop-t.invariant.0 x.a.now in
-    let x = c.args in
-    let i = c.loop-t.invariant in
-    omega (arith, row_fits x.rows x.width i.0 (row_inside x.rows x.width i.0 _ i.2 (omega arith)), i.2, size)
+loop-t-init c = (0, record { within = omega arith; there = omega arith; cleared = record { matrix = clear-start _ _ _ _ _; steps = refl } })
 
 pub overflow_add-steps : goal.overflow_add-steps
 overflow_add-steps c =
-    let is-inside : c.loop-t.invariant.0 < c.args.rows = row_inside c.args.rows c.args.width c.loop-t.invariant.0 _ c.loop-t.invariant.2 (omega arith) in
     let x = c.args in
     let i = c.loop-t.invariant in
-    omega (arith, i.4, is-inside, others-le i.0 x.k (λ j. entry x.width x.a.now j x.col))
+    let within = row_inside x.rows x.width i.0 _ i.1.there (omega arith) in
+    omega (arith, within, i.1.cleared.steps, others-le i.0 x.k (λ j. entry x.width x.a.now j x.col))
 
 pub overflow_sub-p : goal.overflow_sub-p
 overflow_sub-p c =
-    let read : c.other_entry-f.result ≡ other_entry c.loop-t.a (c.loop-t.invariant.0 * c.args.width) (c.args.k * c.args.width) c.args.col = c.other_entry-f.ensures ∙ ap (λ (z : ℕ). other_entry c.loop-t.a z (c.args.k * c.args.width) c.args.col) c.loop-t.invariant.2 in
-    let below : Below c.args.p c.loop-t.a = let x = c.args in
-    let l = c.loop-t in
-    rows-below x.p x.width x.k x.col l.invariant.0 x.a.now l.a l.invariant.3 c.requires.a_len.3 c.requires.below in
-    let small : c.other_entry-f.result < c.args.p = let x = c.args in
-    let l = c.loop-t in
-    other-below x.p x.width x.k x.col l.invariant.0 c.other_entry-f.result l.a (omega arith) read c.requires.a_len.3 below in
-    omega (arith, small)
-
-pub add_row-requires : goal.add_row-requires
-add_row-requires c =
-    let read : c.other_entry-f.result ≡ other_entry c.loop-t.a (c.loop-t.invariant.0 * c.args.width) (c.args.k * c.args.width) c.args.col = c.other_entry-f.ensures ∙ ap (λ (z : ℕ). other_entry c.loop-t.a z (c.args.k * c.args.width) c.args.col) c.loop-t.invariant.2 in
-    let is-inside : c.loop-t.invariant.0 < c.args.rows = row_inside c.args.rows c.args.width c.loop-t.invariant.0 _ c.loop-t.invariant.2 (omega arith) in
-    let size : length c.loop-t.a ≡ length c.args.a.now = let x = c.args in
-    ap length c.loop-t.invariant.3 ∙ length-clear x.p x.width x.k x.col c.loop-t.invariant.0 x.a.now in
-    let below : Below c.args.p c.loop-t.a = let x = c.args in
-    let l = c.loop-t in
-    rows-below x.p x.width x.k x.col l.invariant.0 x.a.now l.a l.invariant.3 c.requires.a_len.3 c.requires.below in
-    let small : c.other_entry-f.result < c.args.p = let x = c.args in
-    let l = c.loop-t in
-    other-below x.p x.width x.k x.col l.invariant.0 c.other_entry-f.result l.a (omega arith) read c.requires.a_len.3 below in
     let x = c.args in
-    let i = c.loop-t.invariant in
-    let there = other_row x.p x.width x.k x.col i.0 c.other_entry-f.result c.loop-t.a (omega arith) read c.if-f-ne0.true in record { width_in_bounds = omega (arith, row_fits x.rows x.width i.0 is-inside, row_fits x.rows x.width x.k (omega arith), i.2, size, small); kept = ⊎_elim (λ m. inl (omega (arith, i.2))) (λ m. inr (omega (arith, i.2))) (rows_apart x.width i.0 x.k there); below = below }
+    let l = c.loop-t in
+    let below = rows-below x.p x.width x.k x.col l.invariant.0 x.a.now l.a l.invariant.1.cleared.matrix c.requires.a_len.3 c.requires.below in
+    omega (arith, other-below x.p x.width x.k x.col l.t _ l.a c.other_entry-f.ensures c.requires.a_len.3 below)
 
-pub overflow_add-t : goal.overflow_add-t
-overflow_add-t c =
-    let is-inside : c.loop-t.invariant.0 < c.args.rows = row_inside c.args.rows c.args.width c.loop-t.invariant.0 _ c.loop-t.invariant.2 (omega arith) in
+pub add_row-requires-clause-below : goal.add_row-requires-clause-below
+add_row-requires-clause-below c =
     let x = c.args in
-    omega (arith, row_fits x.rows x.width c.loop-t.invariant.0 is-inside, c.loop-t.invariant.2)
-
-pub loop-t-smaller : goal.loop-t-smaller
-loop-t-smaller c = omega arith
+    let l = c.loop-t in rows-below x.p x.width x.k x.col l.invariant.0 x.a.now l.a l.invariant.1.cleared.matrix c.requires.a_len.3 c.requires.below
 
 pub loop-t-preserved : goal.loop-t-preserved
 loop-t-preserved c =
-    let read : c.other_entry-f.result ≡ other_entry c.loop-t.a (c.loop-t.invariant.0 * c.args.width) (c.args.k * c.args.width) c.args.col = c.other_entry-f.ensures ∙ ap (λ (z : ℕ). other_entry c.loop-t.a z (c.args.k * c.args.width) c.args.col) c.loop-t.invariant.2 in
-    let is-inside : c.loop-t.invariant.0 < c.args.rows = row_inside c.args.rows c.args.width c.loop-t.invariant.0 _ c.loop-t.invariant.2 (omega arith) in
     let x = c.args in
     let l = c.loop-t in
-    let r = l.invariant.0 in
-    let f = c.other_entry-f.result in
-    let step = rows_step x.p x.width x.k x.col r x.a.now l.a c.if-f-ne0.a l.invariant.3 in
-    let count = count-step x.p x.width x.k x.col r l.steps x.a.now l.a (omega arith) l.invariant.3 l.invariant.4 in
-    elim c.if-f-ne0.branch [
-      | then-f-ne0 w ↦
-          let g = row-cleared x.p x.width x.k x.col r f l.a (omega arith) read w.if-f-ne0.true in
-          (suc r, is-inside, omega (arith, l.invariant.2), step (w.a-is ∙ w.add_row.ensures ∙ ap (λ (z : ℕ). add_row x.p (x.p - f) z (x.k * x.width) x.width l.a) l.invariant.2 ∙ g.0), w.steps-is ∙ count 1 g.1)
-      | else-f-ne0 w ↦
-          let g = row-passed x.p x.width x.k x.col r f l.a (omega arith) read w.if-f-ne0.false in
-          (suc r, is-inside, omega (arith, l.invariant.2), step (w.a-is ∙ g.0), omega (arith, w.steps-is, count 0 g.1))
-    ]
-
-pub shape_of-a : goal.shape_of-a
-shape_of-a c =
-    let size : length c.loop-t.a ≡ length c.args.a.now = let x = c.args in
-    ap length c.loop-t.invariant.3 ∙ length-clear x.p x.width x.k x.col c.loop-t.invariant.0 x.a.now in
-    size
+    let i = l.invariant in (
+      i.0 + 1,
+      record {
+        within = let m = row_inside x.rows x.width i.0 _ i.1.there (omega arith) in omega (arith, m);
+        there = omega (arith, i.1.there);
+        cleared = elim c.if-f-ne0.branch [
+          | then-f-ne0 w ↦
+              row_taken x.p x.width x.k x.col l.t i.0 _ l.steps _ x.a.now l.a _ (omega arith) i.1.there c.other_entry-f.ensures i.1.cleared w.if-f-ne0.true
+              (w.a-is ∙ w.add_row.ensures) w.steps-is
+          | else-f-ne0 w ↦
+              row_passed x.p x.width x.k x.col l.t i.0 _ l.steps _ x.a.now l.a _ (omega arith) i.1.there c.other_entry-f.ensures i.1.cleared w.if-f-ne0.false
+              w.a-is w.steps-is
+        ];
+      },
+    )
 
 pub returns : goal.returns
 returns c =
     let x = c.args in
     let i = c.loop-t.invariant in
-    let e = row-past x.rows x.width i.0 _ i.2 (omega arith) i.1 (omega arith) in
-    record {
-      matrix = i.3 ∙ ap (λ (n : ℕ). clear_to x.p x.width x.k x.col n x.a.now) e;
-      steps = i.4 ∙ ap (λ (n : ℕ). others n x.k (λ j. entry x.width x.a.now j x.col)) e;
-    }
+    let e = row-past x.rows x.width i.0 _ i.1.there (omega arith) i.1.within (omega arith) in
+    subst (λ (n : ℕ). ColumnCleared x.p n x.width x.k x.col x.a.now c.loop-t.a c.loop-t.steps) e i.1.cleared

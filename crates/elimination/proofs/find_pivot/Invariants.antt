@@ -1,5 +1,5 @@
 -- The search from here is the search of the whole.
-use Prim.Native.Nat.{◌-◌, ◌≤◌}
+use Prim.Native.Nat.{◌-◌}
 use mathlib.Core.Path.{◌≡◌}
 use Rattle.base.specs.Search.{first_from}
 use Rattle.gauss.specs.Gauss.{usable}
@@ -8,7 +8,4 @@ use Rattle.elimination.specs.Inner.{buffers}
 use Rattle.elimination.proofs.find_pivot.Given as goal
 
 abbrev pub invariant-loop-top : goal.invariant-loop-top
-invariant-loop-top l = (l.top ≤ l.rows) × (first_from (usable (view l.width (buffers l.a l.used)) l.col) l.top (l.rows - l.top) ≡ flat_pivot l.rows l.width l.col (buffers l.a l.used))
-
-abbrev pub decreases-loop-top : goal.decreases-loop-top
-decreases-loop-top l = l.rows - l.top
+invariant-loop-top l = first_from (usable (view l.width (buffers l.a l.used)) l.col) l.top (l.rows - l.top) ≡ flat_pivot l.rows l.width l.col (buffers l.a l.used)

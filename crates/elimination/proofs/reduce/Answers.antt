@@ -1,12 +1,11 @@
 -- The loop passes column by column, by whether it has a pivot, and counts as the definition does.
 use Prim.Native.Nat.{ℕ, ◌+◌, ◌*◌, ◌≤◌, ◌<◌}
-use mathlib.Core.Path.{◌≡◌, refl, ap, ◌∙◌, subst}
+use mathlib.Core.Path.{◌≡◌, refl}
 use mathlib.Core.List.{List}
 use native.Mathlib.Nat.{mul-le-mul_right}
 use native.Mathlib.Omega.{arith}
-use lib.ListN.{length}
 use Rattle.elimination.specs.Elimination.{flat_reduce, flat_steps, flat_pivot}
-use Rattle.elimination.specs.Inner.{buffers, Ready, RowUsed, Reduction}
+use Rattle.elimination.specs.Inner.{buffers, RowUsed, Reduction}
 use Rattle.elimination.proofs.Flat.{column-some, column-none, counts_some, counts-none, passes, renamed, counted-le, below-reduce}
 use Rattle.elimination.proofs.reduce.Goals as goal
 use Rattle.elimination.proofs.reduce.Goals.{then-k-rows, else-k-rows}
@@ -24,56 +23,29 @@ same_next {p} {rows} {width} {col} {a} {used} {b} {v} k so e none =
 
 pub loop-col-init : goal.loop-col-init
 unfolding flat_reduce flat_steps
-loop-col-init c = (omega arith, refl, refl, record { state = refl; steps = refl })
+loop-col-init c = record { state = refl; steps = refl }
 
-pub find_pivot-k-requires : goal.find_pivot-k-requires
-find_pivot-k-requires c =
-    let ready : Ready c.args.p c.args.rows c.args.width c.loop-col.a c.loop-col.used = let x = c.args in
-    let i = c.loop-col.invariant in
+pub use_row-total-requires-clause-ready : goal.use_row-total-requires-clause-ready
+use_row-total-requires-clause-ready c =
+    let x = c.args in
+    let l = c.loop-col in
     let r = c.requires.ready in
     record {
-      fits = record { size = i.1 ∙ r.fits.size; marks = i.2 ∙ r.fits.marks; narrow = r.fits.narrow };
+      fits = record { size = omega (arith, r.fits.size); marks = omega (arith, r.fits.marks); narrow = r.fits.narrow };
       prime = r.prime;
-      below = below-reduce x.p x.rows x.width c.loop-col.col (buffers x.a.now x.used.now) _ i.3.state (omega (arith, r.prime.big)) r.below;
-    } in record { fits = ready.fits; col_lt_width = omega arith }
-
-pub use_row-total-requires : goal.use_row-total-requires
-use_row-total-requires c =
-    let ready : Ready c.args.p c.args.rows c.args.width c.loop-col.a c.loop-col.used = let x = c.args in
-    let i = c.loop-col.invariant in
-    let r = c.requires.ready in
-    record {
-      fits = record { size = i.1 ∙ r.fits.size; marks = i.2 ∙ r.fits.marks; narrow = r.fits.narrow };
-      prime = r.prime;
-      below = below-reduce x.p x.rows x.width c.loop-col.col (buffers x.a.now x.used.now) _ i.3.state (omega (arith, r.prime.big)) r.below;
-    } in record { ready = ready; k_lt_rows = (c.if-k-rows.true, omega arith); inverses = c.inverses-table.ensures }
+      below = below-reduce x.p x.rows x.width l.col (buffers x.a.now x.used.now) _ l.invariant.state (omega (arith, r.prime.big)) r.below;
+    }
 
 pub overflow_add-total : goal.overflow_add-total
 overflow_add-total c =
     let x = c.args in
     let fits : (c.loop-col.col + 1) * x.rows ≤ x.width * x.rows = mul-le-mul_right x.rows (omega (arith, c.requires.pivots_le_width)) in
-    omega (arith, counted-le (used-next _ c.loop-col.invariant.3 c.find_pivot-k.ensures c.if-k-rows.true c.use_row-total.ensures), fits, c.requires.ready.fits.size)
+    omega (arith, counted-le (used-next _ c.loop-col.invariant c.find_pivot-k.ensures c.if-k-rows.true c.use_row-total.ensures), fits, c.requires.ready.fits.size)
 
 pub loop-col-preserved : goal.loop-col-preserved
 loop-col-preserved c =
     let i = c.loop-col.invariant in
     elim c.if-k-rows.branch [
-      | then-k-rows w ↦ (
-        omega arith,
-        ap length w.a-is ∙ w.use_row-total.auto.a ∙ i.1,
-        ap length w.used-is ∙ w.use_row-total.auto.used ∙ i.2,
-        renamed (used-next _ i.3 c.find_pivot-k.ensures w.if-k-rows.true w.use_row-total.ensures) w.a-is w.used-is w.total-is,
-      )
-      | else-k-rows w ↦ (
-        omega arith,
-        ap length w.a-is ∙ i.1,
-        ap length w.used-is ∙ i.2,
-        renamed (same_next _ i.3 c.find_pivot-k.ensures w.if-k-rows.false) w.a-is w.used-is (omega (arith, w.total-is)),
-      )
+      | then-k-rows w ↦ renamed (used-next _ i c.find_pivot-k.ensures w.if-k-rows.true w.use_row-total.ensures) w.a-is w.used-is w.total-is
+      | else-k-rows w ↦ renamed (same_next _ i c.find_pivot-k.ensures w.if-k-rows.false) w.a-is w.used-is (omega (arith, w.total-is))
     ]
-
-pub returns : goal.returns
-returns c =
-    let x = c.args in
-    let e : c.loop-col.col ≡ x.pivots = omega arith in
-    subst (λ (n : ℕ). Reduction x.p x.rows x.width n x.a.now x.used.now c.loop-col.a c.loop-col.used c.loop-col.total) e c.loop-col.invariant.3

@@ -1,39 +1,17 @@
 -- The code scales row k by the inverse of its entry and clears the column by it, as the definition does. Scaling is no row step.
-use Prim.Native.Nat.{ℕ, ◌+◌, ◌*◌}
+use Prim.Native.Nat.{ℕ}
 use mathlib.Core.Path.{ap, ◌∙◌}
 use mathlib.Core.List.{List}
 use native.Mathlib.Omega.{arith}
-use Rattle.base.proofs.Matrix.{row_fits, entry-fits}
 use Rattle.base.specs.Matrix.{entry}
 use Rattle.gauss.specs.Gauss.{others}
 use Rattle.row_steps.proofs.Rows.{below-scale}
 use Rattle.elimination.proofs.Flat.{scaling-counts, used-is}
 use Rattle.elimination.proofs.use_row.Goals as goal
 
-pub overflow_mul-t : goal.overflow_mul-t
-overflow_mul-t c = let x = c.args in omega (arith, entry-fits x.rows x.width x.k x.col (omega arith) (omega arith))
-
-pub overflow_add-x : goal.overflow_add-x
-overflow_add-x c = let x = c.args in omega (arith, entry-fits x.rows x.width x.k x.col (omega arith) (omega arith))
-
-pub offset_bounds-a-t : goal.offset_bounds-a-t
-offset_bounds-a-t c = let x = c.args in omega (arith, entry-fits x.rows x.width x.k x.col (omega arith) (omega arith))
-
-pub bounds-a-t : goal.bounds-a-t
-bounds-a-t c = let x = c.args in omega (arith, entry-fits x.rows x.width x.k x.col (omega arith) (omega arith))
-
-pub inverse_by-scale-requires : goal.inverse_by-scale-requires
-inverse_by-scale-requires c =
-    let x = c.args in record { a_lt_p = c.requires.ready.below (x.k * x.width + x.col); prime = c.requires.ready.prime; inverses = c.requires.inverses }
-
-pub scale_row-requires : goal.scale_row-requires
-scale_row-requires c =
-    let x = c.args in
-    let inverse = c.inverse_by-scale in record { width_in_bounds = (omega (arith, row_fits x.rows x.width x.k (omega arith)), inverse.ensures.below); below = c.requires.ready.below }
-
-pub clear_column-requires : goal.clear_column-requires
-clear_column-requires c =
-    let x = c.args in record { a_len = omega (arith, c.requires.ready.prime.big); below = rw c.scale_row.ensures (below-scale x.p _ _ x.width x.a.now (omega (arith, c.requires.ready.prime.big)) c.requires.ready.below) }
+pub clear_column-requires-clause-below : goal.clear_column-requires-clause-below
+clear_column-requires-clause-below c =
+    let x = c.args in rw c.scale_row.ensures (below-scale x.p _ _ x.width x.a.now (omega (arith, c.requires.ready.prime.big)) c.requires.ready.below)
 
 pub returns : goal.returns
 returns c =

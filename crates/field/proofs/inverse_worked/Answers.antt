@@ -1,19 +1,10 @@
 -- a times `acc` is `cur` throughout; `cur` falls and stays above 0 because no number between 1 and the prime p divides it.
 use Prim.Native.Nat.{◌-◌, ◌*◌, ◌/◌, ◌%◌, ◌<◌}
-use mathlib.Core.Path.{ap, ◌∙◌}
-use native.Mathlib.Nat.{mod-lt, mod-eq_of_lt, mul-one, div-le_self}
+use mathlib.Core.Path.{◌∙◌}
+use native.Mathlib.Nat.{mod-lt}
 use native.Mathlib.Omega.{arith}
 use Rattle.field.proofs.Prime.{inverse-turn, inverse-by}
 use Rattle.field.proofs.inverse_worked.Goals as goal
-
-pub loop-cur-init : goal.loop-cur-init
-loop-cur-init c = (omega arith, omega arith, omega arith, ap (λ n. n % c.args.p) (mul-one c.args.a) ∙ mod-eq_of_lt (omega arith))
-
-pub overflow_sub-p : goal.overflow_sub-p
-overflow_sub-p c = div-le_self c.args.p c.loop-cur.cur
-
-pub loop-cur-smaller : goal.loop-cur-smaller
-loop-cur-smaller c = mod-lt c.args.p (omega arith)
 
 pub loop-cur-preserved : goal.loop-cur-preserved
 loop-cur-preserved c =

@@ -1,43 +1,63 @@
 -- The mark of what stands behind DL decides whether it is a DF, and the rules of a DF whether it is refused; behind a DZ there is none.
--- no DF
-use Prim.Native.Nat.{ℕ, ◌+◌, ◌-◌, ◌*◌, ◌≤◌, ◌<◌}
-use mathlib.Core.Bool.{true, false}
+use Prim.Native.Nat.{ℕ, ◌+◌, ◌-◌, ◌*◌, ◌≤◌}
+use mathlib.Core.Bool.{Bool, true, false, not, ◌&&◌}
 use mathlib.Core.List.{List, []}
-use mathlib.Core.Path.{◌≡◌, refl, sym, ap, subst, ◌∙◌}
+use mathlib.Core.Path.{◌≡◌, refl, sym, ap, ◌∙◌}
 use native.Mathlib.Omega.{arith}
-use borrow.Author.Tests.{eq-eqb, ne_eqb}
-use lib.Dec.{eqb}
+use borrow.Author.Rules.{rules}
+use lib.Dec.{eqb, ltb}
 use lib.ListN.{length, take, drop}
 use Rattle.base.specs.Rules.{refusal}
+use Rattle.base.specs.Refusals.{number}
+use Rattle.base.proofs.Refusals.{above_zero}
 use Rattle.scheme.specs.declared.Params.{Params}
 use Rattle.scheme.specs.Setup.{setup_of}
-use Rattle.record_layouts.specs.declared.DealingRecord.{DealingRecord}
 use Rattle.record_words.specs.Words.{word_at}
+use Rattle.record_layouts.specs.declared.DealingRecord.{DealingRecord}
 use Rattle.record_layouts.specs.Records.{mark_df, setup_at, dealing_at}
 use Rattle.file_records.proofs.Reading.{part-is}
 use Rattle.file_reading.specs.declared.Front.{Front}
-use Rattle.file_reading.specs.File.{mapped_rules, mapped_fault}
-use Rattle.file_reading.specs.Inner.{part_of, zero_in, second_of, tied_in, FrontIn, ReadsMap}
-use Rattle.file_reading.proofs.Steps.{front_fits, has-no-place, has-none, has-mark, map-none, map-own}
+use Rattle.file_reading.specs.File.{refused_at, has_map, mapped_rules, mapped_fault}
+use Rattle.file_reading.specs.Inner.{part_of, zero_in, second_of, tied_in, FrontIn, MapIn}
+use Rattle.file_reading.proofs.Steps.{front_fits, has-no-place, map-none, map-own, file-mapped-refused}
 use Rattle.file_reading.proofs.read_second.Goals as goal
+use Rattle.file_reading.proofs.read_second.Goals.{then-front-via-then-front, then-front-via-else-front+then-not-has_mark}
 
-none-there : (s : List ℕ) (f : Front) → FrontIn s f → tied_in s ≡ false → ReadsMap s (record { refusal = 0; byte = f.byte; mapped = false })
-none-there s f F e =
-    record {
-      mapped = sym e;
-      number = map-none (setup_at s) (dealing_at (part_of s)) (zero_in s) (second_of s) e;
-      refused = λ n. absurd (n refl);
-      next = λ _. F.byte ∙ rw e (omega arith);
-    }
+abbrev marked : List ℕ → Bool
+marked t = not (ltb (length t) 2) && eqb (word_at t 0) mark_df
 
--- the part behind DL or DZ
+by-mark : (z : Bool) (t : List ℕ) → z ≡ false → has_map z t ≡ marked t
+unfolding has_map
+by-mark z t e = rw e refl
 
--- its mark
+module _ (s : List ℕ) (f : Front) (F : FrontIn s f) where
+  abbrev rest : List ℕ
+  rest = take (length s - f.byte) (drop f.byte s)
 
--- and what refuses it
+  fits : f.byte ≤ length s
+  fits = omega (arith, F.byte, front_fits s F.fair)
 
-fits : (s : List ℕ) (f : Front) → FrontIn s f → f.byte ≤ length s
-fits s f F = omega (arith, F.byte, front_fits s F.fair)
+  same-part : rest ≡ second_of s
+  same-part = part-is s f.byte ∙ ap (λ (k : ℕ). drop k s) F.byte
+
+  tied-by : f.zero ≡ false → tied_in s ≡ marked rest
+  tied-by e = by-mark (zero_in s) (second_of s) (sym F.zero ∙ e) ∙ ap marked (sym same-part)
+
+  none-there : tied_in s ≡ false → MapIn s (record { byte = f.byte; mapped = false })
+  none-there e =
+      record {
+        mapped = sym e;
+        fair = sym (map-none (setup_at s) (dealing_at (part_of s)) (zero_in s) (second_of s) e);
+        byte = F.byte ∙ rw e (omega arith);
+      }
+
+  -- what refuses a DF
+  own : tied_in s ≡ true → refusal (mapped_rules (setup_of f.setup []) f.record rest) ≡ mapped_fault (setup_at s) (dealing_at (part_of s)) (zero_in s) (second_of s)
+  own there =
+      ap (λ (p : Params). refusal (mapped_rules (setup_of p []) f.record rest)) F.setup
+      ∙ ap (λ (x : DealingRecord). refusal (mapped_rules (setup_at s) x rest)) F.dealing
+      ∙ ap (λ (u : List ℕ). refusal (mapped_rules (setup_at s) (dealing_at (part_of s)) u)) same-part
+      ∙ map-own (setup_at s) (dealing_at (part_of s)) (zero_in s) (second_of s) there
 
 pub slice_bounds-t-count : goal.slice_bounds-t-count
 slice_bounds-t-count c = fits c.args.file.now c.args.front c.requires
@@ -47,75 +67,38 @@ slice_bounds-t-start c = fits c.args.file.now c.args.front c.requires
 
 pub returns-then-front : goal.returns-then-front
 returns-then-front c =
-    let file : List ℕ = c.args.file.now in
-    let front : Front = c.args.front in
-    let s = file in
-    none-there s front c.requires (has-no-place (zero_in s) (second_of s) (sym c.requires.zero ∙ c.if-front.true))
-
-pub returns-then-t-lt2 : goal.returns-then-t-lt2
-returns-then-t-lt2 c =
-    let file : List ℕ = c.args.file.now in
-    let front : Front = c.args.front in
-    let part_same : take (length file - front.byte) (drop front.byte file) ≡ second_of file = part-is file front.byte ∙ ap (λ (k : ℕ). drop k file) c.requires.byte in
-    let s = file in
-    none-there s front c.requires (has-none (zero_in s) (second_of s) (subst (λ (u : List ℕ). length u < 2) part_same c.if-t-lt2.true))
-
-pub returns-then-mark-ne-MARK_DF : goal.returns-then-mark-ne-MARK_DF
-returns-then-mark-ne-MARK_DF c =
-    let file : List ℕ = c.args.file.now in
-    let front : Front = c.args.front in
-    let part_same : take (length file - front.byte) (drop front.byte file) ≡ second_of file = part-is file front.byte ∙ ap (λ (k : ℕ). drop k file) c.requires.byte in
-    let marked : tied_in file ≡ eqb (word_at (second_of file) 0) mark_df = let s = file in
-    has-mark (zero_in s) (second_of s) (sym c.requires.zero ∙ c.if-front.false) (subst (λ (u : List ℕ). 2 ≤ length u) part_same c.if-t-lt2.false) in
-    none-there file front c.requires
-    (marked ∙ ne_eqb _ _ (λ e. c.if-mark-ne-MARK_DF.true (c.word-mark.ensures ∙ ap (λ (u : List ℕ). word_at u 0) part_same ∙ e)))
-
-pub returns-then-second-ne0 : goal.returns-then-second-ne0
-returns-then-second-ne0 c =
-    let file : List ℕ = c.args.file.now in
-    let front : Front = c.args.front in
-    let part_same : take (length file - front.byte) (drop front.byte file) ≡ second_of file = part-is file front.byte ∙ ap (λ (k : ℕ). drop k file) c.requires.byte in
-    let marked : tied_in file ≡ eqb (word_at (second_of file) 0) mark_df = let s = file in
-    has-mark (zero_in s) (second_of s) (sym c.requires.zero ∙ c.if-front.false) (subst (λ (u : List ℕ). 2 ≤ length u) part_same c.if-t-lt2.false) in
-    let there : tied_in file ≡ true = marked ∙ eq-eqb _ _ (ap (λ (u : List ℕ). word_at u 0) (sym part_same) ∙ sym c.word-mark.ensures ∙ c.if-mark-ne-MARK_DF.false) in
-    let own : let s = file in c.second_fault.result ≡ mapped_fault (setup_at s) (dealing_at (part_of s)) (zero_in s) (second_of s) = let s = file in
+    let s = c.args.file.now in
+    let f = c.args.front in
     let F = c.requires in
-    let t = take (length s - front.byte) (drop front.byte s) in
-    c.second_fault.ensures
-    ∙ ap (λ (p : Params). refusal (mapped_rules (setup_of p []) front.record t)) F.setup
-    ∙ ap (λ (x : DealingRecord). refusal (mapped_rules (setup_at s) x t)) F.dealing
-    ∙ ap (λ (u : List ℕ). refusal (mapped_rules (setup_at s) (dealing_at (part_of s)) u)) part_same
-    ∙ map-own (setup_at s) (dealing_at (part_of s)) (zero_in s) (second_of s) there in
-    record {
-      mapped = sym there;
-      number = own;
-      refused = λ _. c.requires.byte;
-      next = λ z. absurd (c.if-second-ne0.true z);
-    }
+    elim c.then-front.branch [
+      | then-front-via-then-front w ↦ none-there s f F (has-no-place (zero_in s) (second_of s) (sym F.zero ∙ w.if-front.true))
+      | then-front-via-else-front+then-not-has_mark w ↦
+          let none : w.has_mark.result ≡ false = search rules in
+          none-there s f F (tied-by s f F w.if-front.false ∙ sym w.has_mark.ensures ∙ none)
+    ]
+
+pub returns-in-Err : goal.returns-in-Err
+returns-in-Err c =
+    let s = c.args.file.now in
+    let f = c.args.front in
+    let F = c.requires in
+    let some : c.has_mark.result ≡ true = search rules in
+    let there : tied_in s ≡ true = tied-by s f F c.if-front.false ∙ sym c.has_mark.ensures ∙ some in
+    let k = number c.in-Err.refusal in
+    ap (refused_at k) F.byte
+    ∙ file-mapped-refused s F.fair.setup (setup_at s) refl F.fair.dealing refl refl refl refl k (c.in-Err.ensures ∙ own s f F there) (above_zero c.in-Err.refusal)
 
 pub returns : goal.returns
 returns c =
-    let file : List ℕ = c.args.file.now in
-    let front : Front = c.args.front in
-    let part_same : take (length file - front.byte) (drop front.byte file) ≡ second_of file = part-is file front.byte ∙ ap (λ (k : ℕ). drop k file) c.requires.byte in
-    let marked : tied_in file ≡ eqb (word_at (second_of file) 0) mark_df = let s = file in
-    has-mark (zero_in s) (second_of s) (sym c.requires.zero ∙ c.if-front.false) (subst (λ (u : List ℕ). 2 ≤ length u) part_same c.if-t-lt2.false) in
-    let there : tied_in file ≡ true = marked ∙ eq-eqb _ _ (ap (λ (u : List ℕ). word_at u 0) (sym part_same) ∙ sym c.word-mark.ensures ∙ c.if-mark-ne-MARK_DF.false) in
-    let own : let s = file in c.second_fault.result ≡ mapped_fault (setup_at s) (dealing_at (part_of s)) (zero_in s) (second_of s) = let s = file in
+    let s = c.args.file.now in
+    let f = c.args.front in
     let F = c.requires in
-    let t = take (length s - front.byte) (drop front.byte s) in
-    c.second_fault.ensures
-    ∙ ap (λ (p : Params). refusal (mapped_rules (setup_of p []) front.record t)) F.setup
-    ∙ ap (λ (x : DealingRecord). refusal (mapped_rules (setup_at s) x t)) F.dealing
-    ∙ ap (λ (u : List ℕ). refusal (mapped_rules (setup_at s) (dealing_at (part_of s)) u)) part_same
-    ∙ map-own (setup_at s) (dealing_at (part_of s)) (zero_in s) (second_of s) there in
-    let F = c.requires in
-    let yes = there in
+    let some : c.has_mark.result ≡ true = search rules in
+    let there : tied_in s ≡ true = tied-by s f F c.if-front.false ∙ sym c.has_mark.ensures ∙ some in
     record {
-      mapped = sym yes;
-      number = own;
-      refused = λ n. absurd (n c.if-second-ne0.false);
-      next = λ _. rw yes
+      mapped = sym there;
+      fair = sym (c.in_default.ensures ∙ own s f F there);
+      byte = rw there
           (omega (
             arith,
             F.byte,

@@ -15,7 +15,7 @@ room : (column w : ℕ) → column ≤ 8 → column * (w + 12) ≤ 8 * (w + 12)
 room column w h = mul-le-mul h (le_refl (w + 12))
 
 pub loop-column-init : goal.loop-column-init
-loop-column-init c = (omega arith, refl, omega arith, refl, refl, refl)
+loop-column-init c = (omega arith, refl, refl, refl)
 
 pub put_line-k-requires : goal.put_line-k-requires
 put_line-k-requires c =
@@ -32,9 +32,7 @@ loop-column-preserved c =
     let e = column_lines-step x.word.now vs c.loop-column.column h in (
       omega arith,
       omega arith,
-      omega arith,
-      omega arith,
-      after w _ ∙ ap (λ t. sets c.loop-column.out c.loop-column.k t) (sym e) ∙ c.loop-column.invariant.4,
+      after w _ ∙ ap (λ t. sets c.loop-column.out c.loop-column.k t) (sym e) ∙ c.loop-column.invariant.2,
       omega (arith, simp length-append at (ap length e), simp length-append at w.place),
     )
 
@@ -42,4 +40,4 @@ pub returns : goal.returns
 returns c =
     let x = c.args in
     let e = column_lines-end x.word.now x.values.now c.loop-column.column (omega arith) in
-    record { text = rw e at c.loop-column.invariant.4; place = omega (arith, ap length e); small = omega (arith, room c.loop-column.column (length x.word.now) (omega arith)) }
+    record { text = rw e at c.loop-column.invariant.2; place = omega (arith, ap length e); small = omega (arith, room c.loop-column.column (length x.word.now) (omega arith)) }

@@ -1,19 +1,16 @@
 -- The loops go through the pairs in their order: what the search gives from the place i * n + j on is what it gives of the whole, and the two products
 -- are the pair value and the value due.
-use mathlib.Core.Path.{sym, ◌∙◌}
+use mathlib.Core.Path.{refl, sym, ap, ◌∙◌}
 use native.Mathlib.Omega.{arith}
 use Rattle.scheme.specs.Setup.{setup_of}
 use Rattle.scheme.proofs.Calls.{rehearse-ok, limits-pos}
 use Rattle.judging.proofs.Products.{row_inside, is-pair-value-of, is-due-of}
-use Rattle.judging.proofs.Pairs.{pairs-begin, row-begin, row-end, pair-agrees, pair-differs, pairs_end}
+use Rattle.judging.proofs.Pairs.{pairs-begin, pair-agrees, pair-differs, pairs_end}
 use Rattle.judging.proofs.first_pair.Goals as goal
-use Rattle.judging.proofs.first_pair.Goals.{else-holders-test, then-holders-test+then-loop-j-test+then-sent-due}
+use Rattle.scheme.specs.Answers.{paper_rehearsed}
 
 pub holders-init : goal.holders-init
-holders-init c = (omega arith, pairs-begin _ _ _)
-
-pub loop-j-init : goal.loop-j-init
-loop-j-init c = (omega arith, row-begin _ _ _ _ c.holders.invariant.1)
+holders-init c = (refl, pairs-begin _ _ _)
 
 pub rows_product-sent-requires : goal.rows_product-sent-requires
 rows_product-sent-requires c =
@@ -47,23 +44,19 @@ loop-j-preserved c =
     let S = setup_of x.s x.matrix.now in
     let sent = is-pair-value-of S _ c.dim-d.ensures.0 _ x.gs.now l.j i c.rows_product-sent.ensures in
     let due = is-due-of S _ c.dim-d.ensures.0 _ x.hs.now i l.j c.rows_product-due.ensures in
-    (omega arith, pair-agrees S _ _ i l.j (omega arith) (omega arith) (sym sent ∙ c.if-sent-due.false ∙ due) l.invariant.1)
+    (l.invariant.0, pair-agrees S _ _ i l.j (omega arith) (omega arith) (sym sent ∙ c.if-sent-due.false ∙ due) l.invariant.1)
 
-pub holders-preserved : goal.holders-preserved
-holders-preserved c = (omega arith, row-end _ _ _ _ _ c.loop-j.invariant.0 c.loop-j-test.false c.loop-j.invariant.1)
+pub returns-after-holders : goal.returns-after-holders
+returns-after-holders c =
+    let h = c.holders in
+    ap paper_rehearsed h.invariant.0 ∙ pairs_end _ _ _ h.i h.auto.i-end c.holders-test.false h.invariant.1
 
-pub returns-then-i-n : goal.returns-then-i-n
-returns-then-i-n c =
+pub returns-then-sent-due : goal.returns-then-sent-due
+returns-then-sent-due c =
+    let l = c.loop-j in
     let i = c.holders.i in
     let x = c.args in
     let S = setup_of x.s x.matrix.now in
-    elim c.holders-test.branch [
-      | else-holders-test w ↦ absurd (omega arith)
-      | then-holders-test+then-loop-j-test+then-sent-due w ↦
-          let sent = is-pair-value-of S _ c.dim-d.ensures.0 _ x.gs.now w.loop-j.j i w.rows_product-sent.ensures in
-          let due = is-due-of S _ c.dim-d.ensures.0 _ x.hs.now i w.loop-j.j w.rows_product-due.ensures in
-          rw w.j-is (pair-differs S _ _ i w.loop-j.j w.holders-test.true w.loop-j-test.true (λ e. w.if-sent-due.true (sent ∙ e ∙ sym due)) w.loop-j.invariant.1)
-    ]
-
-pub returns : goal.returns
-returns c = pairs_end _ _ _ _ c.holders.invariant.0 c.if-i-n.false c.holders.invariant.1
+    let sent = is-pair-value-of S _ c.dim-d.ensures.0 _ x.gs.now l.j i c.rows_product-sent.ensures in
+    let due = is-due-of S _ c.dim-d.ensures.0 _ x.hs.now i l.j c.rows_product-due.ensures in
+    pair-differs S _ _ i l.j (omega arith) (omega arith) (λ e. c.if-sent-due.true (sent ∙ e ∙ sym due)) l.invariant.1

@@ -1,6 +1,6 @@
 -- The search from holder j on is the search of the whole, and the product is the value due.
 use mathlib.Core.Bool.{not}
-use mathlib.Core.Path.{sym, ap, ◌∙◌}
+use mathlib.Core.Path.{◌≡◌, sym, ap, ◌∙◌}
 use native.Mathlib.Nat.{sub-zero}
 use native.Mathlib.Omega.{arith}
 use borrow.Author.Tests.{eq-eqb, ne_eqb}
@@ -14,7 +14,7 @@ use Rattle.judging.proofs.lowest_that_differs.Goals as goal
 
 pub loop-j-init : goal.loop-j-init
 unfolding first
-loop-j-init c = (omega arith, rw sub-zero)
+loop-j-init c = rw sub-zero
 
 pub rows_product-due-requires : goal.rows_product-due-requires
 rows_product-due-requires c =
@@ -28,11 +28,6 @@ rows_product-due-requires c =
       part-inside S _ e x.h.now ok.part.size,
     )
 
-pub bounds-values-j : goal.bounds-values-j
-bounds-values-j c =
-    let x = c.args in
-    omega (arith, (judge-ok (setup_of x.s x.matrix.now) x.h.now x.values.now c.requires).received.size)
-
 pub returns-then-values-j : goal.returns-then-values-j
 unfolding differs
 returns-then-values-j c =
@@ -40,7 +35,7 @@ returns-then-values-j c =
     let x = c.args in
     let S = setup_of x.s x.matrix.now in
     let due = is-due S _ c.dim-d.ensures.0 _ x.h.now l.j c.rows_product-due.ensures in
-    sym (l.invariant.1 ∙ first-stop _ _ _ c.loop-j-test.true (ap not (ne_eqb _ _ (λ q. c.if-values-j.true (q ∙ sym due)))))
+    sym (l.invariant ∙ first-stop _ _ _ c.loop-j-test.true (ap not (ne_eqb _ _ (λ q. c.if-values-j.true (q ∙ sym due)))))
 
 pub loop-j-preserved : goal.loop-j-preserved
 unfolding differs
@@ -49,7 +44,9 @@ loop-j-preserved c =
     let x = c.args in
     let S = setup_of x.s x.matrix.now in
     let due = is-due S _ c.dim-d.ensures.0 _ x.h.now l.j c.rows_product-due.ensures in
-    (omega arith, l.invariant.1 ∙ first_step _ _ _ c.loop-j-test.true (ap not (eq-eqb _ _ (c.if-values-j.false ∙ due))))
+    l.invariant ∙ first_step _ _ _ c.loop-j-test.true (ap not (eq-eqb _ _ (c.if-values-j.false ∙ due)))
 
 pub returns : goal.returns
-returns c = sym (c.loop-j.invariant.1 ∙ first-end _ _ _ c.loop-j-test.false)
+returns c =
+    let e : c.loop-j.j ≡ c.args.s.n = omega arith in
+    sym (c.loop-j.invariant ∙ first-end _ _ _ c.loop-j-test.false ∙ e)

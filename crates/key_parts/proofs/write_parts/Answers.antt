@@ -1,19 +1,23 @@
 -- The code's columns are the table's, by computation.
 use mathlib.Core.Path.{refl, ◌∙◌}
-use borrow.Author.Rules.{rules}
 use Rattle.base.specs.Fill.{tab, tab_from}
 use Rattle.key_parts.proofs.Columns.{half, columns_of}
+use Rattle.key_parts.proofs.Parts.{products-g, products-h, rows-below, columns-below}
 use Rattle.key_parts.proofs.Table.{key-halves, key-parts-g, key-parts-h}
 use Rattle.key_parts.proofs.write_parts.Goals as goal
 
-pub write_h-requires : goal.write_h-requires
+pub write_products-requires : goal.write_products-requires
 unfolding columns_of half tab tab_from
-write_h-requires c = record { halves = key-halves _ refl; lent = c.requires.lent; hs_len = search rules }
+write_products-requires c = record { halves = key-halves _ refl; below = rows-below _ _ _ c.requires.lent c.all_rows.ensures; out_len = c.requires.gs_len.1 }
 
-pub write_g-requires : goal.write_g-requires
+pub write_products-requires-2 : goal.write_products-requires-2
 unfolding columns_of half tab tab_from
-write_g-requires c = record { halves = key-halves _ refl; lent = c.requires.lent; gs_len = search rules }
+write_products-requires-2 c = record { halves = key-halves _ refl; below = columns-below _ _ _ c.requires.lent c.all_columns.ensures; out_len = c.requires.gs_len.0 }
 
 pub returns : goal.returns
 unfolding columns_of half tab tab_from
-returns c = record { gs_after = c.write_g.ensures ∙ key-parts-g _ refl _ _; hs_after = c.write_h.ensures ∙ key-parts-h _ refl _ _ }
+returns c =
+    record {
+      gs_after = c.write_products-2.ensures ∙ products-g _ _ _ _ c.all_columns.ensures ∙ key-parts-g _ refl _ _;
+      hs_after = c.write_products.ensures ∙ products-h _ _ _ _ c.all_rows.ensures ∙ key-parts-h _ refl _ _;
+    }

@@ -13,8 +13,8 @@ use Rattle.key_values.proofs.read.Goals as goal
 pub folded16-requires : goal.folded16-requires
 folded16-requires c = rw c.sums.ensures (below-tab 1048577 16 _ (omega arith) (λ i l. below-dot 16 _ _ (omega arith) (λ k m. c.requires.columns _ _) (λ k m. c.requires.below _)))
 
-pub times16-requires : goal.times16-requires
-times16-requires c = record { below = lanes-below _ _ c.folded16.ensures; below_2 = c.requires.below_2 }
+pub times16-requires-clause-below : goal.times16-requires-clause-below
+times16-requires-clause-below c = lanes-below _ _ c.folded16.ensures
 
 pub returns : goal.returns
 returns c =

@@ -1,13 +1,10 @@
 -- The first b columns are placed.
-use Prim.Native.Nat.{◌-◌, ◌*◌, ◌≤◌}
+use Prim.Native.Nat.{ℕ, ◌*◌, ◌<◌}
 use mathlib.Core.Path.{◌≡◌}
-use lib.ListN.{length}
-use Rattle.base.specs.Fill.{filled}
+use mathlib.Core.List.{[]}
+use lib.ListN.{length, get_or}
 use Rattle.key_weights.specs.Inner.{placed_at}
 use Rattle.key_weights.proofs.place.Given as goal
 
 abbrev pub invariant-loop-b : goal.invariant-loop-b
-invariant-loop-b l = (l.b ≤ 4) × (length l.initial.r ≡ 4) × (l.r ≡ filled (λ b. placed_at l.members l.shares (b * l.k)) l.b l.initial.r)
-
-abbrev pub decreases-loop-b : goal.decreases-loop-b
-decreases-loop-b l = 4 - l.b
+invariant-loop-b l = (length l.r ≡ 4) × ((k : ℕ) → k < l.b → get_or l.r k [] ≡ placed_at l.members l.shares (k * l.k))

@@ -1,5 +1,5 @@
 -- The first a shares stand at their places.
-use Prim.Native.Nat.{◌+◌, ◌-◌, ◌≤◌}
+use Prim.Native.Nat.{◌+◌}
 use mathlib.Core.Path.{◌≡◌}
 use Rattle.base.specs.Fill.{tab}
 use Rattle.field.specs.Dot.{at}
@@ -7,7 +7,4 @@ use Rattle.key_weights.specs.Inner.{spread}
 use Rattle.key_weights.proofs.placed.Given as goal
 
 abbrev pub invariant-loop-a : goal.invariant-loop-a
-invariant-loop-a l = (l.a ≤ 7) × (l.r ≡ tab 16 (spread l.members l.a (λ a. at l.shares (l.start + a))))
-
-abbrev pub decreases-loop-a : goal.decreases-loop-a
-decreases-loop-a l = 7 - l.a
+invariant-loop-a l = l.r ≡ tab 16 (spread l.members l.a (λ a. at l.shares (l.start + a)))

@@ -1,5 +1,5 @@
--- The first a members are multiplied in.
-use Prim.Native.Nat.{◌-◌, ◌%◌, ◌≤◌}
+-- The factors of the members so far are multiplied.
+use Prim.Native.Nat.{◌%◌}
 use mathlib.Core.Path.{◌≡◌}
 use Rattle.base.specs.Fill.{tab}
 use Rattle.field.specs.Dot.{at}
@@ -7,8 +7,7 @@ use Rattle.polynomial.specs.Polynomial.{prod}
 use Rattle.key_weights.specs.Inner.{away, behind}
 use Rattle.key_weights.proofs.weigh.Given as goal
 
-abbrev pub invariant-loop-a : goal.invariant-loop-a
-invariant-loop-a l = (l.a ≤ 7) × (l.x ≡ tab 16 (λ i. prod l.a (λ s. away l.inverses (at l.members s) i) % 257)) × (l.y ≡ tab 16 (λ i. prod l.a (λ s. behind (at l.members s) i) % 257))
-
-abbrev pub decreases-loop-a : goal.decreases-loop-a
-decreases-loop-a l = 7 - l.a
+abbrev pub invariant-loop-j : goal.invariant-loop-j
+invariant-loop-j l =
+    (l.x ≡ tab 16 (λ i. prod l.j-index (λ a. away l.inverses (at l.members a) i) % 257))
+    × (l.y ≡ tab 16 (λ c. prod l.j-index (λ a. behind (at l.members a) c) % 257))

@@ -1,19 +1,7 @@
--- The first i lanes are the sums.
-use mathlib.Core.Path.{refl, ◌∙◌}
-use native.Mathlib.Nat.{le_antisymm}
+-- Each lane by its own entries.
 use borrow.Author.Rules.{rules}
-use Rattle.base.proofs.Fill.{filled_none, filled-store, filled-all}
+use Rattle.base.proofs.Fill.{tab-from_fn}
 use Rattle.lanes.proofs.add32.Goals as goal
 
-pub loop-i-init : goal.loop-i-init
-loop-i-init c = (search rules, refl, filled_none _ _)
-
-pub more-requires : goal.more-requires
-more-requires c =
-    (c.requires.below _, c.requires.x_bound, c.requires.below_2 _)
-
-pub loop-i-preserved : goal.loop-i-preserved
-loop-i-preserved c = (search rules, c.loop-i.invariant.1, filled-store _ _ _ _ _ c.loop-i.invariant.2 c.more.ensures)
-
 pub returns : goal.returns
-returns c = rw (le_antisymm c.loop-i.invariant.0 c.loop-i-test.false) at c.loop-i.invariant.2 ∙ filled-all _ 32 _ c.loop-i.invariant.1
+returns c = tab-from_fn _ _ _ 0 _ _ c.from_fn.ensures.items (λ i y q l k. search rules)

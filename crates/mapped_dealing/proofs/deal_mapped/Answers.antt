@@ -3,7 +3,6 @@ use mathlib.Core.Path.{refl, sym, ap, ◌∙◌}
 use native.Mathlib.Omega.{arith}
 use lib.Dec.{leb}
 use Rattle.base.specs.Rules.{or_when}
-use Rattle.base.proofs.Rules.{declined, unchanged}
 use Rattle.scheme.specs.Setup.{setup_of}
 use Rattle.scheme.specs.Calls.{buffers}
 use Rattle.scheme.proofs.Calls.{deal_mapped-ok}
@@ -11,20 +10,13 @@ use Rattle.dealing.proofs.Parts.{dealt-room, dealt-array, held-g, held-h}
 use Rattle.mapped_dealing.proofs.Parts.{same-buffers, mapped-room, mapped-array}
 use Rattle.mapped_dealing.proofs.deal_mapped.Goals as goal
 
-pub returns-then-refusal-ne0 : goal.returns-then-refusal-ne0
-returns-then-refusal-ne0 c =
-    let x = c.args in
-    let t = c.if-refusal-ne0.true in
-    let lent = rw c.dim-d.ensures.0 at c.mapped_refusal-lent.ensures in
-    let r = c.or_when-refusal.ensures ∙ ap (λ k. or_when k 5 (leb x.s.n x.holder)) lent in record { result_value = rw (← r) (declined _ _ t); h2_after = rw (← r) (same-buffers (unchanged _ _ _ t) (unchanged _ _ _ t) (unchanged _ _ _ t) (unchanged _ _ _ t)) }
-
 pub fill_dealt-requires : goal.fill_dealt-requires
 fill_dealt-requires c =
     let x = c.args in
     let S = setup_of x.s x.matrix.now in
     let B = buffers x.g.now x.h.now x.g2.now x.h2.now in
-    let lent = rw c.dim-d.ensures.0 at c.mapped_refusal-lent.ensures in
-    let z = ap (λ k. or_when k 5 (leb x.s.n x.holder)) (sym lent) ∙ sym c.or_when-refusal.ensures ∙ c.if-refusal-ne0.false in
+    let lent = rw c.dim-d.ensures.0 at c.in_ok-check_mapped.ensures in
+    let z = ap (λ k. or_when k 5 (leb x.s.n x.holder)) (sym lent) ∙ sym c.in_ok-refuse_if.ensures in
     let ok = deal_mapped-ok S x.secrets.now x.random.now x.phi.now x.random2.now B x.holder z in
     dealt-room S _ _ _ ok.0.first refl
 
@@ -33,8 +25,8 @@ fill_mapped-requires c =
     let x = c.args in
     let S = setup_of x.s x.matrix.now in
     let B = buffers x.g.now x.h.now x.g2.now x.h2.now in
-    let lent = rw c.dim-d.ensures.0 at c.mapped_refusal-lent.ensures in
-    let z = ap (λ k. or_when k 5 (leb x.s.n x.holder)) (sym lent) ∙ sym c.or_when-refusal.ensures ∙ c.if-refusal-ne0.false in
+    let lent = rw c.dim-d.ensures.0 at c.in_ok-check_mapped.ensures in
+    let z = ap (λ k. or_when k 5 (leb x.s.n x.holder)) (sym lent) ∙ sym c.in_ok-refuse_if.ensures in
     let ok = deal_mapped-ok S x.secrets.now x.random.now x.phi.now x.random2.now B x.holder z in
     mapped-room S _ _ _ _ _ _ ok.0 (dealt-array S _ _ _ ok.0.first c.fill_dealt.ensures).long refl
 
@@ -43,8 +35,8 @@ write_part-requires c =
     let x = c.args in
     let S = setup_of x.s x.matrix.now in
     let B = buffers x.g.now x.h.now x.g2.now x.h2.now in
-    let lent = rw c.dim-d.ensures.0 at c.mapped_refusal-lent.ensures in
-    let z = ap (λ k. or_when k 5 (leb x.s.n x.holder)) (sym lent) ∙ sym c.or_when-refusal.ensures ∙ c.if-refusal-ne0.false in
+    let lent = rw c.dim-d.ensures.0 at c.in_ok-check_mapped.ensures in
+    let z = ap (λ k. or_when k 5 (leb x.s.n x.holder)) (sym lent) ∙ sym c.in_ok-refuse_if.ensures in
     let ok = deal_mapped-ok S x.secrets.now x.random.now x.phi.now x.random2.now B x.holder z in
     record { setup = ok.0.first.setup; square = (dealt-array S _ _ _ ok.0.first c.fill_dealt.ensures).long; one = ok.2; fits = (ok.1.g, ok.1.h) }
 
@@ -53,8 +45,8 @@ write_part-requires-2 c =
     let x = c.args in
     let S = setup_of x.s x.matrix.now in
     let B = buffers x.g.now x.h.now x.g2.now x.h2.now in
-    let lent = rw c.dim-d.ensures.0 at c.mapped_refusal-lent.ensures in
-    let z = ap (λ k. or_when k 5 (leb x.s.n x.holder)) (sym lent) ∙ sym c.or_when-refusal.ensures ∙ c.if-refusal-ne0.false in
+    let lent = rw c.dim-d.ensures.0 at c.in_ok-check_mapped.ensures in
+    let z = ap (λ k. or_when k 5 (leb x.s.n x.holder)) (sym lent) ∙ sym c.in_ok-refuse_if.ensures in
     let ok = deal_mapped-ok S x.secrets.now x.random.now x.phi.now x.random2.now B x.holder z in
     let F = dealt-array S _ _ _ ok.0.first c.fill_dealt.ensures in
     let F2 = mapped-array S _ _ _ _ _ _ _ ok.0 F c.fill_mapped.ensures in
@@ -65,8 +57,8 @@ returns c =
     let x = c.args in
     let S = setup_of x.s x.matrix.now in
     let B = buffers x.g.now x.h.now x.g2.now x.h2.now in
-    let lent = rw c.dim-d.ensures.0 at c.mapped_refusal-lent.ensures in
-    let z = ap (λ k. or_when k 5 (leb x.s.n x.holder)) (sym lent) ∙ sym c.or_when-refusal.ensures ∙ c.if-refusal-ne0.false in
+    let lent = rw c.dim-d.ensures.0 at c.in_ok-check_mapped.ensures in
+    let z = ap (λ k. or_when k 5 (leb x.s.n x.holder)) (sym lent) ∙ sym c.in_ok-refuse_if.ensures in
     let ok = deal_mapped-ok S x.secrets.now x.random.now x.phi.now x.random2.now B x.holder z in
     let F = dealt-array S _ _ _ ok.0.first c.fill_dealt.ensures in
     let F2 = mapped-array S _ _ _ _ _ _ _ ok.0 F c.fill_mapped.ensures in

@@ -1,5 +1,5 @@
 -- Every position passed is the map's, by the product of its row; the first that is not ends the loop.
-use Prim.Native.Nat.{ℕ, ◌+◌, ◌*◌, ◌≤◌}
+use Prim.Native.Nat.{ℕ}
 use mathlib.Core.Path.{refl, sym, ◌∙◌}
 use mathlib.Core.Bool.{Bool}
 use mathlib.Core.List.{[]}
@@ -7,7 +7,6 @@ use native.Mathlib.Omega.{arith}
 use borrow.Author.Tests.{eq-eqb, ne_eqb}
 use Rattle.base.specs.Search.{every}
 use Rattle.base.proofs.Choice.{and_both}
-use Rattle.base.proofs.Matrix.{row_fits}
 use Rattle.base.proofs.Search.{every-step, every-at, every-all, every-fails}
 use Rattle.scheme.specs.Setup.{setup_of}
 use Rattle.scheme.specs.Dealing.{map_holds}
@@ -17,13 +16,7 @@ use Rattle.mapped_judging.proofs.map_holds.Goals as goal
 
 pub loop-k-init : goal.loop-k-init
 unfolding every
-loop-k-init c = (omega arith, refl)
-
-pub rows_product-due-requires : goal.rows_product-due-requires
-rows_product-due-requires c =
-    let l = c.args.s.l in
-    let fits : c.loop-k.k * l + l ≤ l * l = row_fits l l c.loop-k.k (omega arith) in
-    (c.requires.0, omega arith, omega arith, omega arith)
+loop-k-init c = refl
 
 pub returns-then-h2-k : goal.returns-then-h2-k
 unfolding map_holds
@@ -41,7 +34,7 @@ loop-k-preserved c =
     let l = c.loop-k in
     let t : ℕ → Bool = mapped S x.h.now x.phi.now x.h2.now in
     let due = is-image S _ x.phi.now x.h.now l.k c.rows_product-due.ensures in
-    (omega arith, every-step l.k t ∙ and_both (every l.k t) (t l.k) l.invariant.1 (eq-eqb _ _ (c.if-h2-k.false ∙ due)))
+    every-step l.k t ∙ and_both (every l.k t) (t l.k) l.invariant (eq-eqb _ _ (c.if-h2-k.false ∙ due))
 
 pub returns : goal.returns
 unfolding map_holds
@@ -49,4 +42,4 @@ returns c =
     let x = c.args in
     let l = c.loop-k in
     let t : ℕ → Bool = mapped (setup_of x.s []) x.h.now x.phi.now x.h2.now in
-    sym (every-all x.s.l t (λ i m. every-at l.k t l.invariant.1 i (omega arith)))
+    sym (every-all x.s.l t (λ i m. every-at l.k t l.invariant i (omega arith)))

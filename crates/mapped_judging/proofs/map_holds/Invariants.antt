@@ -1,5 +1,5 @@
 -- Every position passed is the map's, by the product of its row; the first that is not ends the loop.
-use Prim.Native.Nat.{◌-◌, ◌≤◌, ℕ}
+use Prim.Native.Nat.{ℕ}
 use mathlib.Core.Path.{◌≡◌}
 use mathlib.Core.Bool.{true, Bool}
 use mathlib.Core.List.{[], List}
@@ -14,7 +14,4 @@ abbrev pub mapped : Setup → List ℕ → List ℕ → List ℕ → ℕ → Boo
 mapped S h phi h2 k = eqb (at h2 k) (image_at S phi (at h) k)
 
 abbrev pub invariant-loop-k : goal.invariant-loop-k
-invariant-loop-k l = (l.k ≤ l.l) × (every l.k (mapped (setup_of l.s []) l.h l.phi l.h2) ≡ true)
-
-abbrev pub decreases-loop-k : goal.decreases-loop-k
-decreases-loop-k l = l.l - l.k
+invariant-loop-k l = every l.k (mapped (setup_of l.s []) l.h l.phi l.h2) ≡ true

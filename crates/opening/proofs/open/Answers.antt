@@ -13,52 +13,49 @@ use Rattle.set_systems.proofs.Members.{Room, room, part-size, fresh}
 use Rattle.opening.proofs.Answer.{open-taken}
 use Rattle.opening.proofs.open.Goals as goal
 
-pub returns-then-refusal-ne0 : goal.returns-then-refusal-ne0
-returns-then-refusal-ne0 c = let e = c.open_refusal-refusal.ensures in record { result_value = rw (← e) (declined _ _ c.if-refusal-ne0.true); secrets_after = rw (← e) (unchanged _ _ _ c.if-refusal-ne0.true) }
-
 pub overflow_mul-end : goal.overflow_mul-end
 overflow_mul-end c =
-    let none : let x = c.args in refusal (open_rules (setup_of x.s x.matrix.now) x.set x.shares.now x.rounds.now x.secrets.now) ≡ 0 = sym c.open_refusal-refusal.ensures ∙ c.if-refusal-ne0.false in
+    let none : let x = c.args in refusal (open_rules (setup_of x.s x.matrix.now) x.set x.shares.now x.rounds.now x.secrets.now) ≡ 0 = sym c.in_ok-check_open.ensures in
     let ok : let x = c.args in OpenOk (setup_of x.s x.matrix.now) x.set x.shares.now x.rounds.now x.secrets.now = open-ok _ _ _ _ _ none in
     let has_room : Room (length c.args.shares.now) c.dim.result = let o = ok in room (open-taken o).set o.shares.size c.dim.ensures.0 in
     omega (arith, has_room.beside)
 
 pub slice_bounds-buffer-end : goal.slice_bounds-buffer-end
 slice_bounds-buffer-end c =
-    let none : let x = c.args in refusal (open_rules (setup_of x.s x.matrix.now) x.set x.shares.now x.rounds.now x.secrets.now) ≡ 0 = sym c.open_refusal-refusal.ensures ∙ c.if-refusal-ne0.false in
+    let none : let x = c.args in refusal (open_rules (setup_of x.s x.matrix.now) x.set x.shares.now x.rounds.now x.secrets.now) ≡ 0 = sym c.in_ok-check_open.ensures in
     let ok : let x = c.args in OpenOk (setup_of x.s x.matrix.now) x.set x.shares.now x.rounds.now x.secrets.now = open-ok _ _ _ _ _ none in
     let has_room : Room (length c.args.shares.now) c.dim.result = let o = ok in room (open-taken o).set o.shares.size c.dim.ensures.0 in
     has_room.beside
 
 pub slice_bounds-open_by-end : goal.slice_bounds-open_by-end
 slice_bounds-open_by-end c =
-    let none : let x = c.args in refusal (open_rules (setup_of x.s x.matrix.now) x.set x.shares.now x.rounds.now x.secrets.now) ≡ 0 = sym c.open_refusal-refusal.ensures ∙ c.if-refusal-ne0.false in
+    let none : let x = c.args in refusal (open_rules (setup_of x.s x.matrix.now) x.set x.shares.now x.rounds.now x.secrets.now) ≡ 0 = sym c.in_ok-check_open.ensures in
     let ok : let x = c.args in OpenOk (setup_of x.s x.matrix.now) x.set x.shares.now x.rounds.now x.secrets.now = open-ok _ _ _ _ _ none in
     let has_room : Room (length c.args.shares.now) c.dim.result = let o = ok in room (open-taken o).set o.shares.size c.dim.ensures.0 in
     part-size _ 544 has_room.beside
 
 pub slice_bounds-marks-end : goal.slice_bounds-marks-end
 slice_bounds-marks-end c =
-    let none : let x = c.args in refusal (open_rules (setup_of x.s x.matrix.now) x.set x.shares.now x.rounds.now x.secrets.now) ≡ 0 = sym c.open_refusal-refusal.ensures ∙ c.if-refusal-ne0.false in
+    let none : let x = c.args in refusal (open_rules (setup_of x.s x.matrix.now) x.set x.shares.now x.rounds.now x.secrets.now) ≡ 0 = sym c.in_ok-check_open.ensures in
     let ok : let x = c.args in OpenOk (setup_of x.s x.matrix.now) x.set x.shares.now x.rounds.now x.secrets.now = open-ok _ _ _ _ _ none in
     let has_room : Room (length c.args.shares.now) c.dim.result = let o = ok in room (open-taken o).set o.shares.size c.dim.ensures.0 in
     has_room.members
 
 pub slice_bounds-open_by-end-2 : goal.slice_bounds-open_by-end-2
 slice_bounds-open_by-end-2 c =
-    let none : let x = c.args in refusal (open_rules (setup_of x.s x.matrix.now) x.set x.shares.now x.rounds.now x.secrets.now) ≡ 0 = sym c.open_refusal-refusal.ensures ∙ c.if-refusal-ne0.false in
+    let none : let x = c.args in refusal (open_rules (setup_of x.s x.matrix.now) x.set x.shares.now x.rounds.now x.secrets.now) ≡ 0 = sym c.in_ok-check_open.ensures in
     let ok : let x = c.args in OpenOk (setup_of x.s x.matrix.now) x.set x.shares.now x.rounds.now x.secrets.now = open-ok _ _ _ _ _ none in
     let has_room : Room (length c.args.shares.now) c.dim.result = let o = ok in room (open-taken o).set o.shares.size c.dim.ensures.0 in
     part-size _ 32 has_room.members
 
 pub open_by-requires : goal.open_by-requires
 open_by-requires c =
-    let none : let x = c.args in refusal (open_rules (setup_of x.s x.matrix.now) x.set x.shares.now x.rounds.now x.secrets.now) ≡ 0 = sym c.open_refusal-refusal.ensures ∙ c.if-refusal-ne0.false in
+    let none : let x = c.args in refusal (open_rules (setup_of x.s x.matrix.now) x.set x.shares.now x.rounds.now x.secrets.now) ≡ 0 = sym c.in_ok-check_open.ensures in
     let ok : let x = c.args in OpenOk (setup_of x.s x.matrix.now) x.set x.shares.now x.rounds.now x.secrets.now = open-ok _ _ _ _ _ none in
     let has_room : Room (length c.args.shares.now) c.dim.result = let o = ok in room (open-taken o).set o.shares.size c.dim.ensures.0 in
     let h = has_room in record { open_taken = open-taken ok; fresh = rw (← ok.shares.size, ← c.dim.ensures.0) (fresh (length c.args.shares.now) (c.dim.result + 1) 544 32 h.beside h.members) }
 
 pub returns : goal.returns
 returns c =
-    let none : let x = c.args in refusal (open_rules (setup_of x.s x.matrix.now) x.set x.shares.now x.rounds.now x.secrets.now) ≡ 0 = sym c.open_refusal-refusal.ensures ∙ c.if-refusal-ne0.false in
+    let none : let x = c.args in refusal (open_rules (setup_of x.s x.matrix.now) x.set x.shares.now x.rounds.now x.secrets.now) ≡ 0 = sym c.in_ok-check_open.ensures in
     let z = none in record { result_value = rw z c.open_by.ensures.answers; secrets_after = rw z c.open_by.ensures.buffer }

@@ -1,5 +1,4 @@
 -- After k rows of the table each lane is the product of its first k entries and those of the line.
-use Prim.Native.Nat.{◌-◌, ◌≤◌}
 use mathlib.Core.Path.{◌≡◌}
 use Rattle.base.specs.Fill.{tab}
 use Rattle.field.specs.Dot.{dot, along}
@@ -7,7 +6,4 @@ use Rattle.parts.specs.Inner.{lane}
 use Rattle.parts.proofs.products.Given as goal
 
 abbrev pub invariant-loop-k : goal.invariant-loop-k
-invariant-loop-k l = (l.k ≤ l.d) × (l.sums ≡ tab 8 (λ t. dot l.k (lane l.table l.at l.wide t) (along l.x l.start l.step)))
-
-abbrev pub decreases-loop-k : goal.decreases-loop-k
-decreases-loop-k l = l.d - l.k
+invariant-loop-k l = l.sums ≡ tab 8 (λ t. dot l.k (lane l.table l.at l.wide t) (along l.x l.start l.step))

@@ -15,6 +15,3 @@ returns-then-p-gt257 c =
       gs_after = rw e (w.gs_after ∙ past-filled _ (entry_g _ _ _ _) 0 _ _ _ (omega arith) (simp zero-mul (filled_none _ _)));
       hs_after = rw e (w.hs_after ∙ past-filled _ (entry_h _ _ _ _) 0 _ _ _ (omega arith) (simp zero-mul (filled_none _ _)));
     }
-
-pub write_eights-requires : goal.write_eights-requires
-write_eights-requires c = record { all_room = c.requires.all_room; below = λ k. omega (arith, c.requires.below k); below_2 = λ k. omega (arith, c.requires.below_2 k) }

@@ -1,6 +1,5 @@
 -- The first j entries are those of row i.
-use mathlib.Core.Path.{ap, ◌∙◌}
-use native.Mathlib.Nat.{le_antisymm}
+use mathlib.Core.Path.{◌≡◌, ap, ◌∙◌}
 use native.Mathlib.Omega.{arith}
 use borrow.Author.Rules.{rules}
 use lib.ListN.{get_or}
@@ -11,16 +10,16 @@ use Rattle.points.proofs.row.Goals as goal
 
 pub loop-j-init : goal.loop-j-init
 unfolding zeros
-loop-j-init c = (search rules, filled_none _ _)
+loop-j-init c = filled_none _ _
 
 pub point-requires : goal.point-requires
 point-requires c =
     let w = ap (λ l. get_or l c.loop-j.j 0) c.requires.3 ∙ weights-at c.args.p c.args.d _ (omega arith) (omega arith) in
-    (omega arith, omega arith, omega arith, omega arith, w)
+    search (rules, w)
 
 pub loop-j-preserved : goal.loop-j-preserved
-loop-j-preserved c = (search rules, filled-store _ _ _ _ _ c.loop-j.invariant.1 c.point.ensures)
+loop-j-preserved c = filled-store _ _ _ _ _ c.loop-j.invariant c.point.ensures
 
 pub returns : goal.returns
 unfolding points_row
-returns c = rw (le_antisymm c.loop-j.invariant.0 c.loop-j-test.false) at c.loop-j.invariant.1
+returns c = let e : c.loop-j.j ≡ c.args.d = omega arith in rw e at c.loop-j.invariant

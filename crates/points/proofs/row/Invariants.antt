@@ -1,5 +1,4 @@
 -- The first j entries are those of row i.
-use Prim.Native.Nat.{◌-◌, ◌≤◌}
 use mathlib.Core.Path.{◌≡◌}
 use Rattle.base.specs.Fill.{filled}
 use Rattle.polynomial.specs.Polynomial.{point}
@@ -7,7 +6,4 @@ use Rattle.points.specs.Inner.{zeros}
 use Rattle.points.proofs.row.Given as goal
 
 abbrev pub invariant-loop-j : goal.invariant-loop-j
-invariant-loop-j l = (l.j ≤ l.d) × (l.entries ≡ filled (point l.p l.d l.i) l.j zeros)
-
-abbrev pub decreases-loop-j : goal.decreases-loop-j
-decreases-loop-j l = l.d - l.j
+invariant-loop-j l = l.entries ≡ filled (point l.p l.d l.i) l.j zeros

@@ -1,5 +1,5 @@
 -- The columns passed so far are solved; the first that is not ends the loop.
-use Prim.Native.Nat.{ℕ, ◌+◌, ◌-◌}
+use Prim.Native.Nat.{ℕ, ◌+◌}
 use mathlib.Core.Path.{◌≡◌}
 use mathlib.Core.Bool.{Bool, true}
 use mathlib.Core.List.{List}
@@ -15,6 +15,3 @@ solved rows width pivots a used k = leb rows (flat_unsolved rows width (pivots +
 
 abbrev pub invariant-loop-q : goal.invariant-loop-q
 invariant-loop-q l = every l.q (solved l.rows l.width l.pivots l.a l.used) ≡ true
-
-abbrev pub decreases-loop-q : goal.decreases-loop-q
-decreases-loop-q l = l.sides - l.q

@@ -1,16 +1,8 @@
 -- By whether position q has a pivot row, and then by what else that row has.
 use mathlib.Core.Path.{refl}
-use native.Mathlib.Omega.{arith}
 use borrow.Author.Tests.{lt-ltb, le-ltb}
-use Rattle.base.proofs.Matrix.{row_fits}
 use Rattle.read_off.specs.ReadOff.{fixes, flat_fixes}
 use Rattle.read_off.proofs.fixes.Goals as goal
-
-pub overflow_mul-r : goal.overflow_mul-r
-overflow_mul-r c = let x = c.args in omega (arith, row_fits x.rows x.width c.pivot_row-r.result (omega arith))
-
-pub alone-requires : goal.alone-requires
-alone-requires c = let x = c.args in omega (arith, row_fits x.rows x.width c.pivot_row-r.result (omega arith))
 
 pub returns-then-r-rows : goal.returns-then-r-rows
 unfolding flat_fixes fixes

@@ -1,26 +1,18 @@
 -- Each turn fills one entry more with the word at its place.
 use Prim.Native.Nat.{ℕ, ◌+◌}
-use mathlib.Core.Path.{◌≡◌, refl, ap, ◌∙◌}
+use mathlib.Core.Path.{◌≡◌, ap, ◌∙◌}
 use native.Mathlib.Omega.{arith}
-use lib.ListN.{length, length-set}
+use lib.ListN.{length}
 use Rattle.base.specs.Fill.{filled}
 use Rattle.base.proofs.Fill.{filled_none, filled-store, filled-whole}
 use Rattle.record_words.specs.Words.{word_at, words_at}
 use Rattle.record_words.proofs.get_words.Goals as goal
 
 pub loop-k-init : goal.loop-k-init
-loop-k-init c = (omega arith, refl, filled_none _ _)
-
-pub loop-k-smaller : goal.loop-k-smaller
-loop-k-smaller c = simp length-set (omega arith)
+loop-k-init c = filled_none _ _
 
 pub loop-k-preserved : goal.loop-k-preserved
-loop-k-preserved c =
-    let x = c.args in (
-      simp length-set (omega arith),
-      simp length-set (omega arith),
-      filled-store (λ j. word_at x.s.now (x.i + j)) c.loop-k.k x.out.now c.loop-k.out c.whole.result c.loop-k.invariant.2 c.whole.ensures,
-    )
+loop-k-preserved c = filled-store _ _ _ _ _ c.loop-k.invariant c.whole.ensures
 
 pub returns : goal.returns
 unfolding words_at
@@ -28,4 +20,4 @@ returns c =
     let x = c.args in
     let e : c.loop-k.k ≡ length x.out.now = omega arith in
     let f : ℕ → ℕ = λ j. word_at x.s.now (x.i + j) in
-    c.loop-k.invariant.2 ∙ ap (λ n. filled f n x.out.now) e ∙ filled-whole f 0 x.out.now
+    c.loop-k.invariant ∙ ap (λ n. filled f n x.out.now) e ∙ filled-whole f 0 x.out.now

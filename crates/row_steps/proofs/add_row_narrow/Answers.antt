@@ -1,21 +1,48 @@
--- The entries that go by eights, then the rest.
-use Prim.Native.Nat.{ℕ, ◌+◌, ◌-◌}
+-- The loops write the row from left to right, the first by eights; every entry stays below p.
+use Prim.Native.Nat.{ℕ, ◌+◌, ◌-◌, ◌%◌}
 use mathlib.Core.Path.{◌≡◌, ap, ◌∙◌}
-use mathlib.Core.Logic.{inl, inr, ⊎_elim}
 use native.Mathlib.Omega.{arith}
+use borrow.Author.Rules.{rules}
 use Rattle.row_steps.specs.Rows.{add_row}
-use Rattle.row_steps.proofs.Rows.{below-add, add_parts}
+use Rattle.row_steps.proofs.Rows.{add_none, below-add, add_parts, add_step}
 use Rattle.row_steps.proofs.add_row_narrow.Goals as goal
+use Rattle.row_steps.proofs.add_row_narrow.Goals.{else-loop-c-test, then-loop-c-test+else-whole-c-gt8}
 
-pub add_singly-requires : goal.add_singly-requires
-add_singly-requires c =
-    let x = c.args in
-    let m = c.add_eights-c in record { n_in_bounds = (omega arith, omega arith); kept = ⊎_elim (λ k. inl (omega arith)) (λ k. inr (omega arith)) c.requires.kept; below = rw m.ensures.1 (below-add x.p x.h x.t x.q m.result x.a.now c.requires.reciprocal.pos c.requires.below); reciprocal = c.requires.reciprocal }
+pub loop-c-init : goal.loop-c-init
+loop-c-init c = record { eights = search rules; within = search rules; written = add_none _ _ _ _ _ }
 
-pub returns : goal.returns
-returns c =
+pub add_eight-requires-clause-below : goal.add_eight-requires-clause-below
+add_eight-requires-clause-below c =
+    let x = c.args in rw c.loop-c.invariant.written (below-add x.p x.h x.t x.q c.loop-c.c x.a.now c.requires.reciprocal.pos c.requires.below)
+
+pub loop-c-preserved : goal.loop-c-preserved
+loop-c-preserved c =
     let x = c.args in
-    let m = c.add_eights-c in
-    let e : m.result + (x.width - m.result) ≡ x.width = omega (arith, m.ensures.0) in
-    add_parts x.p x.h x.t x.q x.width m.result (x.width - m.result) c.requires.kept (omega (arith, e)) x.a.now m.new.a _ m.ensures.1 c.add_singly.ensures
-    ∙ ap (λ (n : ℕ). add_row x.p x.h x.t x.q n x.a.now) e
+    let l = c.loop-c in record {
+      eights = omega arith;
+      within = omega arith;
+      written = add_parts x.p x.h x.t x.q x.width l.c 8 c.requires.kept (omega arith) x.a.now l.a _ l.invariant.written c.add_eight.ensures;
+    }
+
+pub loop-c-2-init : goal.loop-c-2-init
+loop-c-2-init c =
+    let x = c.args in
+    let l = c.loop-c in
+    let whole = x.width - x.width % 8 in
+    let until = λ (n : ℕ). add_row x.p x.h x.t x.q n x.a.now in elim c.loop-c-test.branch [
+      | else-loop-c-test w ↦ let e : l.c ≡ whole = omega arith in w.a-is ∙ l.invariant.written ∙ ap until e
+      | then-loop-c-test+else-whole-c-gt8 w ↦
+          let e : l.c + 8 ≡ whole = omega arith in
+          add_parts x.p x.h x.t x.q x.width l.c 8 c.requires.kept (omega arith) x.a.now l.a _ l.invariant.written (w.a-is ∙ w.add_eight.ensures) ∙ ap until e
+    ]
+
+pub add_narrow-requires-clause-y_lt_p : goal.add_narrow-requires-clause-y_lt_p
+add_narrow-requires-clause-y_lt_p c =
+    let x = c.args in
+    let l = c.loop-c-2 in
+    let small = below-add x.p x.h x.t x.q l.c x.a.now c.requires.reciprocal.pos c.requires.below in (rw l.invariant (small (x.t + l.c)), rw l.invariant (small (x.q + l.c)))
+
+pub loop-c-2-preserved : goal.loop-c-2-preserved
+loop-c-2-preserved c =
+    let x = c.args in
+    let l = c.loop-c-2 in add_step x.p x.h x.t x.q x.width l.c c.requires.kept (omega arith) x.a.now l.a _ l.invariant c.add_narrow.ensures

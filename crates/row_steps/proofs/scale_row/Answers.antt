@@ -1,9 +1,13 @@
--- By the field: the loop in 16 bits, or the loop with the number itself as its modulus.
+-- The row comes back scaled.
 use native.Mathlib.Omega.{arith}
+use Rattle.row_steps.proofs.Rows.{scaled_part}
 use Rattle.row_steps.proofs.scale_row.Goals as goal
 
-pub scale_row_narrow-requires : goal.scale_row_narrow-requires
-scale_row_narrow-requires c = record { width_in_bounds = omega arith; below = c.requires.below; reciprocal = record { pos = omega arith; small = c.if-p-le257.true; less = omega arith; is = c.reciprocal-r.ensures } }
+pub returns-in-0-to-257 : goal.returns-in-0-to-257
+returns-in-0-to-257 c = scaled_part _ _ _ _ _ _ (omega arith) c.scale_row_narrow.ensures
 
 pub returns-in-65521 : goal.returns-in-65521
-returns-in-65521 c = rw c.in-65521.is c.scale_row_by.ensures
+returns-in-65521 c = rw c.in-65521.is (scaled_part _ _ _ _ _ _ (omega arith) c.scale_row_by.ensures)
+
+pub returns-in_default : goal.returns-in_default
+returns-in_default c = scaled_part _ _ _ _ _ _ (omega arith) c.scale_row_by-in_default.ensures

@@ -1,15 +1,9 @@
--- The loop writes the definition column by column.
-use mathlib.Core.Path.{◌≡◌}
-use native.Mathlib.Omega.{arith}
-use borrow.Author.Rules.{rules}
+-- The loop writes the definition entry by entry.
 use Rattle.row_steps.proofs.Rows.{scale-none, scale-step}
 use Rattle.row_steps.proofs.scale_row_by.Goals as goal
 
-pub loop-c-init : goal.loop-c-init
-loop-c-init c = (search rules, search rules, scale-none _ _ _ _)
+pub loop-x-init : goal.loop-x-init
+loop-x-init c = scale-none _ _ _
 
-pub loop-c-preserved : goal.loop-c-preserved
-loop-c-preserved c = (search rules, search rules, scale-step _ _ _ _ _ _ _ c.loop-c.invariant.2 cc)
-
-pub returns : goal.returns
-returns c = let e : c.loop-c.c ≡ c.args.width = omega arith in cc
+pub loop-x-preserved : goal.loop-x-preserved
+loop-x-preserved c = scale-step _ _ _ _ _ _ c.loop-x.invariant c.add_entry.ensures

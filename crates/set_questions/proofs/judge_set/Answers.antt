@@ -1,105 +1,36 @@
 -- Where nothing is refused, the buffer is cleared; a row, or else a vector, goes to its start, and where there is neither it stays clear.
 -- the places, each from a later one: the start; where nothing is refused and where the buffer is cleared, from `size`; `size` and what the search for a row
 -- left, from its test; `dim` from the test of the search for a vector
-use Prim.Native.Nat.{ℕ, ◌<◌, ◌≤◌}
+use Prim.Native.Nat.{ℕ, ◌<◌}
 use mathlib.Core.List.{List, ◌++◌}
 use mathlib.Core.Path.{◌≡◌, sym, ap, ◌∙◌}
-use native.Mathlib.Omega.{arith}
-use lib.Seq.{length-take-le}
 use lib.ListN.{length, drop, replicate}
 use Rattle.base.specs.Rules.{refusal}
-use Rattle.base.proofs.Rules.{declined}
 use Rattle.scheme.specs.Setup.{Setup, setup_of}
 use Rattle.scheme.specs.Calls.{judge_set_rules}
 use Rattle.set_systems.specs.Inner.{SetTaken}
-use Rattle.set_systems.proofs.Members.{narrow}
-use Rattle.set_questions.proofs.Judge.{judge-taken, judged-row, judged-vector, judged-neither, back, buffer-judged, buffer-declined}
+use Rattle.set_questions.proofs.Judge.{judge-taken, judged-row, judged-vector, judged-neither, back, buffer-judged}
 use Rattle.set_questions.proofs.judge_set.Goals as goal
-
-pub returns-then-refusal-ne0 : goal.returns-then-refusal-ne0
-returns-then-refusal-ne0 c =
-    let setup : Setup = setup_of c.args.s c.args.matrix.now in
-    let e = c.judge_set_refusal-refusal.ensures in record { result_value = rw (← e) (declined _ _ c.if-refusal-ne0.true); set_buffer = buffer-declined setup c.args.set c.args.position c.args.out.now _ (rw e at c.if-refusal-ne0.true) }
-
-pub slice_bounds-seek_row-end : goal.slice_bounds-seek_row-end
-slice_bounds-seek_row-end c =
-    let setup : Setup = setup_of c.args.s c.args.matrix.now in
-    let none : refusal (judge_set_rules setup c.args.set c.args.position c.args.out.now) ≡ 0 = sym c.judge_set_refusal-refusal.ensures ∙ c.if-refusal-ne0.false in
-    let ok : SetTaken setup c.args.set × (length c.args.out.now ≡ 32) × (c.args.position < c.args.s.l) = judge-taken setup c.args.set c.args.position c.args.out.now none in
-    let zeros : c.clear.new.out ≡ replicate 32 0 = c.clear.ensures ∙ ap (λ n. replicate n 0) ok.1 in
-    let row_room : c.size-k.result ≤ length c.clear.new.out = omega (arith, ap length zeros, c.size-k.ensures.1) in
-    row_room
-
-pub slice_bounds-seek_row-end-2 : goal.slice_bounds-seek_row-end-2
-slice_bounds-seek_row-end-2 c =
-    let setup : Setup = setup_of c.args.s c.args.matrix.now in
-    let none : refusal (judge_set_rules setup c.args.set c.args.position c.args.out.now) ≡ 0 = sym c.judge_set_refusal-refusal.ensures ∙ c.if-refusal-ne0.false in
-    let ok : SetTaken setup c.args.set × (length c.args.out.now ≡ 32) × (c.args.position < c.args.s.l) = judge-taken setup c.args.set c.args.position c.args.out.now none in
-    let zeros : c.clear.new.out ≡ replicate 32 0 = c.clear.ensures ∙ ap (λ n. replicate n 0) ok.1 in
-    let row_room : c.size-k.result ≤ length c.clear.new.out = omega (arith, ap length zeros, c.size-k.ensures.1) in
-    sym (length-take-le _ _ row_room)
-
-pub seek_row-row-requires : goal.seek_row-row-requires
-seek_row-row-requires c =
-    let setup : Setup = setup_of c.args.s c.args.matrix.now in
-    let none : refusal (judge_set_rules setup c.args.set c.args.position c.args.out.now) ≡ 0 = sym c.judge_set_refusal-refusal.ensures ∙ c.if-refusal-ne0.false in
-    let ok : SetTaken setup c.args.set × (length c.args.out.now ≡ 32) × (c.args.position < c.args.s.l) = judge-taken setup c.args.set c.args.position c.args.out.now none in
-    let zeros : c.clear.new.out ≡ replicate 32 0 = c.clear.ensures ∙ ap (λ n. replicate n 0) ok.1 in
-    let row_room : c.size-k.result ≤ length c.clear.new.out = omega (arith, ap length zeros, c.size-k.ensures.1) in
-    let h = ok in record { set_taken = h.0; q_lt_l = (h.2, length-take-le _ _ row_room ∙ c.size-k.ensures.0) }
 
 pub returns-then-row : goal.returns-then-row
 returns-then-row c =
     let setup : Setup = setup_of c.args.s c.args.matrix.now in
-    let none : refusal (judge_set_rules setup c.args.set c.args.position c.args.out.now) ≡ 0 = sym c.judge_set_refusal-refusal.ensures ∙ c.if-refusal-ne0.false in
+    let none : refusal (judge_set_rules setup c.args.set c.args.position c.args.out.now) ≡ 0 = sym c.in_ok-check_judge_set.ensures in
     let ok : SetTaken setup c.args.set × (length c.args.out.now ≡ 32) × (c.args.position < c.args.s.l) = judge-taken setup c.args.set c.args.position c.args.out.now none in
-    let zeros : c.clear.new.out ≡ replicate 32 0 = c.clear.ensures ∙ ap (λ n. replicate n 0) ok.1 in
+    let zeros : c.fill.new.self ≡ replicate 32 0 = c.fill.ensures.after (λ y e. e) ∙ ap (λ n. replicate n 0) ok.1 in
     let h = ok in
     let z = none in
     let r = c.seek_row-row.ensures in
     let j = judged-row h.0 h.2 zeros c.size-k.ensures.0 r.steps (r.found c.if-row.true) in record { result_value = rw z j.0; set_buffer = buffer-judged _ _ _ _ _ _ z j.1 }
 
-pub slice_bounds-seek_vector-end : goal.slice_bounds-seek_vector-end
-slice_bounds-seek_vector-end c =
-    let after-row : List ℕ = c.seek_row-row.new.out ++ drop c.size-k.result c.clear.new.out in
-    let setup : Setup = setup_of c.args.s c.args.matrix.now in
-    let none : refusal (judge_set_rules setup c.args.set c.args.position c.args.out.now) ≡ 0 = sym c.judge_set_refusal-refusal.ensures ∙ c.if-refusal-ne0.false in
-    let ok : SetTaken setup c.args.set × (length c.args.out.now ≡ 32) × (c.args.position < c.args.s.l) = judge-taken setup c.args.set c.args.position c.args.out.now none in
-    let zeros : c.clear.new.out ≡ replicate 32 0 = c.clear.ensures ∙ ap (λ n. replicate n 0) ok.1 in
-    let still-zeros : after-row ≡ replicate 32 0 = back c.size-k.result c.clear.new.out _ (c.seek_row-row.ensures.none c.if-row.false).1 ∙ zeros in
-    let vector-room : c.dim-d.result ≤ length after-row = omega (arith, ap length still-zeros, narrow ok.0, c.dim-d.ensures.0) in
-    vector-room
-
-pub slice_bounds-seek_vector-end-2 : goal.slice_bounds-seek_vector-end-2
-slice_bounds-seek_vector-end-2 c =
-    let after-row : List ℕ = c.seek_row-row.new.out ++ drop c.size-k.result c.clear.new.out in
-    let setup : Setup = setup_of c.args.s c.args.matrix.now in
-    let none : refusal (judge_set_rules setup c.args.set c.args.position c.args.out.now) ≡ 0 = sym c.judge_set_refusal-refusal.ensures ∙ c.if-refusal-ne0.false in
-    let ok : SetTaken setup c.args.set × (length c.args.out.now ≡ 32) × (c.args.position < c.args.s.l) = judge-taken setup c.args.set c.args.position c.args.out.now none in
-    let zeros : c.clear.new.out ≡ replicate 32 0 = c.clear.ensures ∙ ap (λ n. replicate n 0) ok.1 in
-    let still-zeros : after-row ≡ replicate 32 0 = back c.size-k.result c.clear.new.out _ (c.seek_row-row.ensures.none c.if-row.false).1 ∙ zeros in
-    let vector-room : c.dim-d.result ≤ length after-row = omega (arith, ap length still-zeros, narrow ok.0, c.dim-d.ensures.0) in
-    sym (length-take-le _ _ vector-room)
-
-pub seek_vector-requires : goal.seek_vector-requires
-seek_vector-requires c =
-    let setup : Setup = setup_of c.args.s c.args.matrix.now in
-    let none : refusal (judge_set_rules setup c.args.set c.args.position c.args.out.now) ≡ 0 = sym c.judge_set_refusal-refusal.ensures ∙ c.if-refusal-ne0.false in
-    let ok : SetTaken setup c.args.set × (length c.args.out.now ≡ 32) × (c.args.position < c.args.s.l) = judge-taken setup c.args.set c.args.position c.args.out.now none in
-    let after-row : List ℕ = c.seek_row-row.new.out ++ drop c.size-k.result c.clear.new.out in
-    let zeros : c.clear.new.out ≡ replicate 32 0 = c.clear.ensures ∙ ap (λ n. replicate n 0) ok.1 in
-    let still-zeros : after-row ≡ replicate 32 0 = back c.size-k.result c.clear.new.out _ (c.seek_row-row.ensures.none c.if-row.false).1 ∙ zeros in
-    let vector-room : c.dim-d.result ≤ length after-row = omega (arith, ap length still-zeros, narrow ok.0, c.dim-d.ensures.0) in
-    let h = ok in record { set_taken = h.0; q_lt_l = (h.2, length-take-le _ _ vector-room ∙ c.dim-d.ensures.0) }
-
 pub returns-then-seek_vector : goal.returns-then-seek_vector
 returns-then-seek_vector c =
     let setup : Setup = setup_of c.args.s c.args.matrix.now in
-    let none : refusal (judge_set_rules setup c.args.set c.args.position c.args.out.now) ≡ 0 = sym c.judge_set_refusal-refusal.ensures ∙ c.if-refusal-ne0.false in
+    let none : refusal (judge_set_rules setup c.args.set c.args.position c.args.out.now) ≡ 0 = sym c.in_ok-check_judge_set.ensures in
     let ok : SetTaken setup c.args.set × (length c.args.out.now ≡ 32) × (c.args.position < c.args.s.l) = judge-taken setup c.args.set c.args.position c.args.out.now none in
-    let after-row : List ℕ = c.seek_row-row.new.out ++ drop c.size-k.result c.clear.new.out in
-    let zeros : c.clear.new.out ≡ replicate 32 0 = c.clear.ensures ∙ ap (λ n. replicate n 0) ok.1 in
-    let still-zeros : after-row ≡ replicate 32 0 = back c.size-k.result c.clear.new.out _ (c.seek_row-row.ensures.none c.if-row.false).1 ∙ zeros in
+    let after-row : List ℕ = c.seek_row-row.new.out ++ drop c.size-k.result c.fill.new.self in
+    let zeros : c.fill.new.self ≡ replicate 32 0 = c.fill.ensures.after (λ y e. e) ∙ ap (λ n. replicate n 0) ok.1 in
+    let still-zeros : after-row ≡ replicate 32 0 = back c.size-k.result c.fill.new.self _ (c.seek_row-row.ensures.none c.if-row.false).1 ∙ zeros in
     let h = ok in
     let z = none in
     let r = c.seek_row-row.ensures in
@@ -108,11 +39,11 @@ returns-then-seek_vector c =
 pub returns : goal.returns
 returns c =
     let setup : Setup = setup_of c.args.s c.args.matrix.now in
-    let none : refusal (judge_set_rules setup c.args.set c.args.position c.args.out.now) ≡ 0 = sym c.judge_set_refusal-refusal.ensures ∙ c.if-refusal-ne0.false in
+    let none : refusal (judge_set_rules setup c.args.set c.args.position c.args.out.now) ≡ 0 = sym c.in_ok-check_judge_set.ensures in
     let ok : SetTaken setup c.args.set × (length c.args.out.now ≡ 32) × (c.args.position < c.args.s.l) = judge-taken setup c.args.set c.args.position c.args.out.now none in
-    let after-row : List ℕ = c.seek_row-row.new.out ++ drop c.size-k.result c.clear.new.out in
-    let zeros : c.clear.new.out ≡ replicate 32 0 = c.clear.ensures ∙ ap (λ n. replicate n 0) ok.1 in
-    let still-zeros : after-row ≡ replicate 32 0 = back c.size-k.result c.clear.new.out _ (c.seek_row-row.ensures.none c.if-row.false).1 ∙ zeros in
+    let after-row : List ℕ = c.seek_row-row.new.out ++ drop c.size-k.result c.fill.new.self in
+    let zeros : c.fill.new.self ≡ replicate 32 0 = c.fill.ensures.after (λ y e. e) ∙ ap (λ n. replicate n 0) ok.1 in
+    let still-zeros : after-row ≡ replicate 32 0 = back c.size-k.result c.fill.new.self _ (c.seek_row-row.ensures.none c.if-row.false).1 ∙ zeros in
     let h = ok in
     let z = none in
     let n = c.seek_vector.ensures.none c.if-seek_vector.false in

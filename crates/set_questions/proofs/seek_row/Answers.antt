@@ -24,16 +24,6 @@ slice_bounds-a-end c =
     let has_room : Room (length c.args.out.now) c.dim-d.result = room c.requires.set_taken c.requires.q_lt_l.1 c.dim-d.ensures.0 in
     part-size _ 528 has_room.across
 
-pub slice_bounds-marks-end : goal.slice_bounds-marks-end
-slice_bounds-marks-end c =
-    let has_room : Room (length c.args.out.now) c.dim-d.result = room c.requires.set_taken c.requires.q_lt_l.1 c.dim-d.ensures.0 in
-    has_room.entries
-
-pub slice_bounds-used-end : goal.slice_bounds-used-end
-slice_bounds-used-end c =
-    let has_room : Room (length c.args.out.now) c.dim-d.result = room c.requires.set_taken c.requires.q_lt_l.1 c.dim-d.ensures.0 in
-    part-size _ 16 has_room.entries
-
 pub reduce_across-steps-requires : goal.reduce_across-steps-requires
 reduce_across-steps-requires c =
     let has_room : Room (length c.args.out.now) c.dim-d.result = room c.requires.set_taken c.requires.q_lt_l.1 c.dim-d.ensures.0 in record { set_taken = c.requires.set_taken; fresh = rw (← c.requires.q_lt_l.1, ← c.dim-d.ensures.0) (fresh c.dim-d.result (length c.args.out.now + 1) 528 16 has_room.across has_room.entries) }

@@ -1,5 +1,4 @@
 -- The loop fills the vector in order.
-use Prim.Native.Nat.{◌-◌, ◌≤◌}
 use mathlib.Core.Path.{◌≡◌}
 use lib.ListN.{length}
 use Rattle.base.specs.Fill.{filled}
@@ -8,7 +7,4 @@ use Rattle.set_questions.specs.Inner.{negated}
 use Rattle.set_questions.proofs.write_sweep.Given as goal
 
 abbrev pub invariant-loop-place : goal.invariant-loop-place
-invariant-loop-place l = (l.place ≤ length l.initial.out) × (length l.out ≡ length l.initial.out) × (l.out ≡ filled (negated l.s.p l.rows (length l.initial.out) l.s.l l.s.e l.q (buffers l.a l.used)) l.place l.initial.out)
-
-abbrev pub decreases-loop-place : goal.decreases-loop-place
-decreases-loop-place l = length l.initial.out - l.place
+invariant-loop-place l = l.out ≡ filled (negated l.s.p l.rows (length l.initial.out) l.s.l l.s.e l.q (buffers l.a l.used)) l.place l.initial.out

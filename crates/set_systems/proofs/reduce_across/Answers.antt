@@ -1,18 +1,10 @@
 -- The buffer is loaded with the members' rows as columns beside e_q, and reduced. The row steps are at most the columns times the rows.
 -- the places: `walk` and the start from where the load is asked, the load from where the reduction is asked
-use mathlib.Core.Path.{sym}
 use native.Mathlib.Omega.{arith}
-use lib.Seq.{length-take-le}
 use Rattle.elimination.proofs.Flat.{counted-le}
 use Rattle.set_systems.proofs.Members.{room}
 use Rattle.set_systems.proofs.Systems.{across-asks, across-loading}
 use Rattle.set_systems.proofs.reduce_across.Goals as goal
-
-pub slice_bounds-members-end : goal.slice_bounds-members-end
-slice_bounds-members-end c = c.walk-k.ensures.fits
-
-pub slice_bounds-load_across-end : goal.slice_bounds-load_across-end
-slice_bounds-load_across-end c = let w = c.walk-k in sym (length-take-le w.result w.new.out w.ensures.fits)
 
 pub load_across-requires : goal.load_across-requires
 load_across-requires c = let both = across-asks c.requires.set_taken c.walk-k.ensures c.dim-d.ensures.0 c.args.q c.requires.fresh in record { d_bound = both.0; lie = both.1 }

@@ -2,19 +2,15 @@
 use mathlib.Core.Path.{refl}
 use native.Mathlib.Omega.{arith}
 use borrow.Author.Rules.{rules}
-use lib.Count.{trailing_le}
 use Rattle.base.proofs.Fill.{filled_none, filled-store}
 use Rattle.field.specs.Dot.{at}
 use Rattle.scheme.specs.Sets.{holds, members}
-use Rattle.scheme.proofs.Members.{left-start, left-turn, left-member, left-place, left_end, next-less, members-le}
+use Rattle.scheme.proofs.Members.{left-start, left-turn, left-member, left-place, left_end, members-le}
 use Rattle.set_systems.proofs.Members.{taken, untouched}
 use Rattle.set_systems.proofs.walk.Goals as goal
 
 pub loop-rest-init : goal.loop-rest-init
 loop-rest-init c = (left-start 32 _ _ c.ranges.set.fits refl, search rules, filled_none _ _)
-
-pub overflow_cast-out : goal.overflow_cast-out
-overflow_cast-out c = omega (arith, trailing_le 32 c.loop-rest.rest)
 
 pub offset_bounds-out-k : goal.offset_bounds-out-k
 offset_bounds-out-k c = omega (arith, left-place c.loop-rest.invariant.0 c.loop-rest-test.true, members-le 32 (holds c.args.set))
@@ -24,9 +20,6 @@ bounds-out-k c = omega (arith, left-place c.loop-rest.invariant.0 c.loop-rest-te
 
 pub overflow_add-k : goal.overflow_add-k
 overflow_add-k c = omega (arith, left-place c.loop-rest.invariant.0 c.loop-rest-test.true, members-le 32 (holds c.args.set))
-
-pub loop-rest-smaller : goal.loop-rest-smaller
-loop-rest-smaller c = next-less _ c.loop-rest-test.true
 
 pub loop-rest-preserved : goal.loop-rest-preserved
 loop-rest-preserved c =

@@ -6,7 +6,6 @@ use lib.Dec.{leb}
 use lib.ListN.{length, replicate}
 use lib.Seq.{length-take-le}
 use Rattle.base.specs.Rules.{refusal, or_when}
-use Rattle.base.proofs.Rules.{declined, unchanged}
 use Rattle.scheme.specs.Setup.{Setup, dim, setup_of}
 use Rattle.scheme.specs.Calls.{deal_zero_rules}
 use Rattle.scheme.proofs.Calls.{DealZeroOk, deal_zero-ok}
@@ -14,17 +13,11 @@ use Rattle.dealing.proofs.Parts.{few, held-g}
 use Rattle.zero_dealing.proofs.Parts.{zero_room, zero-array, refilled, column-length, last-part}
 use Rattle.zero_dealing.proofs.deal_zero.Goals as goal
 
-pub returns-then-refusal-ne0 : goal.returns-then-refusal-ne0
-returns-then-refusal-ne0 c =
-    let x = c.args in
-    let t = c.if-refusal-ne0.true in
-    let r = c.or_when-refusal.ensures ∙ ap (λ (k : ℕ). or_when k 5 (leb x.s.n x.holder)) c.lent_refusal-lent.ensures in record { result_value = rw (← r) (declined _ _ t); g_after = rw (← r) (unchanged _ _ _ t); h_after = rw (← r) (unchanged _ _ _ t) }
-
 pub fill_zero-requires : goal.fill_zero-requires
 fill_zero-requires c =
     let setup : Setup = let x = c.args in setup_of x.s x.matrix.now in
     let clear : let x = c.args in refusal (deal_zero_rules setup x.random.now x.holder x.g.now x.h.now) ≡ 0 = let x = c.args in
-    ap (λ (k : ℕ). or_when k 5 (leb x.s.n x.holder)) (sym c.lent_refusal-lent.ensures) ∙ sym c.or_when-refusal.ensures ∙ c.if-refusal-ne0.false in
+    ap (λ (k : ℕ). or_when k 5 (leb x.s.n x.holder)) (sym c.in_ok-check_lent.ensures) ∙ sym c.in_ok-refuse_if.ensures in
     let ok : let x = c.args in let S = setup in DealZeroOk S x.random.now × (length x.g.now ≡ dim S) × (length x.h.now ≡ S.e) × (x.holder < S.n) = let x = c.args in deal_zero-ok setup x.random.now x.holder x.g.now x.h.now clear in
     zero_room setup _ ok.0
 
@@ -32,7 +25,7 @@ pub slice_bounds-column-end : goal.slice_bounds-column-end
 slice_bounds-column-end c =
     let setup : Setup = let x = c.args in setup_of x.s x.matrix.now in
     let clear : let x = c.args in refusal (deal_zero_rules setup x.random.now x.holder x.g.now x.h.now) ≡ 0 = let x = c.args in
-    ap (λ (k : ℕ). or_when k 5 (leb x.s.n x.holder)) (sym c.lent_refusal-lent.ensures) ∙ sym c.or_when-refusal.ensures ∙ c.if-refusal-ne0.false in
+    ap (λ (k : ℕ). or_when k 5 (leb x.s.n x.holder)) (sym c.in_ok-check_lent.ensures) ∙ sym c.in_ok-refuse_if.ensures in
     let ok : let x = c.args in let S = setup in DealZeroOk S x.random.now × (length x.g.now ≡ dim S) × (length x.h.now ≡ S.e) × (x.holder < S.n) = let x = c.args in deal_zero-ok setup x.random.now x.holder x.g.now x.h.now clear in
     omega (arith, few setup ok.0.setup)
 
@@ -40,7 +33,7 @@ pub slice_bounds-write_part-end-2 : goal.slice_bounds-write_part-end-2
 slice_bounds-write_part-end-2 c =
     let setup : Setup = let x = c.args in setup_of x.s x.matrix.now in
     let clear : let x = c.args in refusal (deal_zero_rules setup x.random.now x.holder x.g.now x.h.now) ≡ 0 = let x = c.args in
-    ap (λ (k : ℕ). or_when k 5 (leb x.s.n x.holder)) (sym c.lent_refusal-lent.ensures) ∙ sym c.or_when-refusal.ensures ∙ c.if-refusal-ne0.false in
+    ap (λ (k : ℕ). or_when k 5 (leb x.s.n x.holder)) (sym c.in_ok-check_lent.ensures) ∙ sym c.in_ok-refuse_if.ensures in
     let ok : let x = c.args in let S = setup in DealZeroOk S x.random.now × (length x.g.now ≡ dim S) × (length x.h.now ≡ S.e) × (x.holder < S.n) = let x = c.args in deal_zero-ok setup x.random.now x.holder x.g.now x.h.now clear in
     sym (length-take-le (dim setup) (replicate 16 0) (few setup ok.0.setup))
 
@@ -48,7 +41,7 @@ pub write_part-requires : goal.write_part-requires
 write_part-requires c =
     let setup : Setup = let x = c.args in setup_of x.s x.matrix.now in
     let clear : let x = c.args in refusal (deal_zero_rules setup x.random.now x.holder x.g.now x.h.now) ≡ 0 = let x = c.args in
-    ap (λ (k : ℕ). or_when k 5 (leb x.s.n x.holder)) (sym c.lent_refusal-lent.ensures) ∙ sym c.or_when-refusal.ensures ∙ c.if-refusal-ne0.false in
+    ap (λ (k : ℕ). or_when k 5 (leb x.s.n x.holder)) (sym c.in_ok-check_lent.ensures) ∙ sym c.in_ok-refuse_if.ensures in
     let ok : let x = c.args in let S = setup in DealZeroOk S x.random.now × (length x.g.now ≡ dim S) × (length x.h.now ≡ S.e) × (x.holder < S.n) = let x = c.args in deal_zero-ok setup x.random.now x.holder x.g.now x.h.now clear in
     let S = setup in
     let k = ok in
@@ -63,7 +56,7 @@ pub slice_bounds-copy-end : goal.slice_bounds-copy-end
 slice_bounds-copy-end c =
     let setup : Setup = let x = c.args in setup_of x.s x.matrix.now in
     let clear : let x = c.args in refusal (deal_zero_rules setup x.random.now x.holder x.g.now x.h.now) ≡ 0 = let x = c.args in
-    ap (λ (k : ℕ). or_when k 5 (leb x.s.n x.holder)) (sym c.lent_refusal-lent.ensures) ∙ sym c.or_when-refusal.ensures ∙ c.if-refusal-ne0.false in
+    ap (λ (k : ℕ). or_when k 5 (leb x.s.n x.holder)) (sym c.in_ok-check_lent.ensures) ∙ sym c.in_ok-refuse_if.ensures in
     let ok : let x = c.args in let S = setup in DealZeroOk S x.random.now × (length x.g.now ≡ dim S) × (length x.h.now ≡ S.e) × (x.holder < S.n) = let x = c.args in deal_zero-ok setup x.random.now x.holder x.g.now x.h.now clear in
     let S = setup in
     sym (refilled (dim S) 16 _ _ c.write_part.ensures.h_after (column-length S _ _) (few S ok.0.setup))
@@ -72,7 +65,7 @@ pub copy-requires : goal.copy-requires
 copy-requires c =
     let setup : Setup = let x = c.args in setup_of x.s x.matrix.now in
     let clear : let x = c.args in refusal (deal_zero_rules setup x.random.now x.holder x.g.now x.h.now) ≡ 0 = let x = c.args in
-    ap (λ (k : ℕ). or_when k 5 (leb x.s.n x.holder)) (sym c.lent_refusal-lent.ensures) ∙ sym c.or_when-refusal.ensures ∙ c.if-refusal-ne0.false in
+    ap (λ (k : ℕ). or_when k 5 (leb x.s.n x.holder)) (sym c.in_ok-check_lent.ensures) ∙ sym c.in_ok-refuse_if.ensures in
     let ok : let x = c.args in let S = setup in DealZeroOk S x.random.now × (length x.g.now ≡ dim S) × (length x.h.now ≡ S.e) × (x.holder < S.n) = let x = c.args in deal_zero-ok setup x.random.now x.holder x.g.now x.h.now clear in
     let S = setup in
     let w = refilled (dim S) 16 _ _ c.write_part.ensures.h_after (column-length S _ _) (few S ok.0.setup) in
@@ -82,7 +75,7 @@ pub returns : goal.returns
 returns c =
     let setup : Setup = let x = c.args in setup_of x.s x.matrix.now in
     let clear : let x = c.args in refusal (deal_zero_rules setup x.random.now x.holder x.g.now x.h.now) ≡ 0 = let x = c.args in
-    ap (λ (k : ℕ). or_when k 5 (leb x.s.n x.holder)) (sym c.lent_refusal-lent.ensures) ∙ sym c.or_when-refusal.ensures ∙ c.if-refusal-ne0.false in
+    ap (λ (k : ℕ). or_when k 5 (leb x.s.n x.holder)) (sym c.in_ok-check_lent.ensures) ∙ sym c.in_ok-refuse_if.ensures in
     let ok : let x = c.args in let S = setup in DealZeroOk S x.random.now × (length x.g.now ≡ dim S) × (length x.h.now ≡ S.e) × (x.holder < S.n) = let x = c.args in deal_zero-ok setup x.random.now x.holder x.g.now x.h.now clear in
     let x = c.args in
     let S = setup in

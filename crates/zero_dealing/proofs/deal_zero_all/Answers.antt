@@ -1,14 +1,12 @@
 -- Where nothing is refused, the array holds F, every holder's g is written, and its h is the last e entries of its column.
-use Prim.Native.Nat.{ℕ, ◌+◌, ◌*◌}
+use Prim.Native.Nat.{ℕ, ◌*◌}
 use mathlib.Core.List.{List}
 use mathlib.Core.Path.{◌≡◌, refl, sym, ◌∙◌}
-use native.Mathlib.Nat.{mul-le-mul}
 use native.Mathlib.Omega.{arith}
 use lib.ListN.{length, take, replicate}
 use lib.Seq.{length-take-le}
 use Rattle.base.specs.Rules.{refusal}
 use Rattle.base.proofs.Fill.{length-tab}
-use Rattle.base.proofs.Rules.{declined, unchanged}
 use Rattle.scheme.specs.Setup.{Setup, dim, setup_of}
 use Rattle.scheme.specs.Dealing.{dealt_zero}
 use Rattle.scheme.specs.Calls.{deal_zero_all_rules}
@@ -22,38 +20,24 @@ use Rattle.zero_dealing.proofs.deal_zero_all.Goals as goal
 abbrev zeros : Setup → List ℕ
 zeros S = take (S.n * dim S) (replicate 512 0)
 
-pub overflow_mul-len : goal.overflow_mul-len
-overflow_mul-len c =
-    let s = c.args.s in
-    omega (arith, mul-le-mul {n₁ = s.n} {m₁ = s.l + s.e} {n₂ = 65535} {m₂ = 131070} (omega arith) (omega arith))
-
-pub overflow_mul-n : goal.overflow_mul-n
-overflow_mul-n c =
-    let s = c.args.s in
-    omega (arith, mul-le-mul {n₁ = s.n} {m₁ = s.e} {n₂ = 65535} {m₂ = 65535} (omega arith) (omega arith))
-
-pub returns-then-refusal-ne0 : goal.returns-then-refusal-ne0
-returns-then-refusal-ne0 c =
-    let t = c.if-refusal-ne0.true in record { result_value = rw (← c.lent_refusal-refusal.ensures) (declined _ _ t); gs_after = rw (← c.lent_refusal-refusal.ensures) (unchanged _ _ _ t); hs_after = rw (← c.lent_refusal-refusal.ensures) (unchanged _ _ _ t) }
-
 pub fill_zero-requires : goal.fill_zero-requires
 fill_zero-requires c =
     let setup : Setup = let x = c.args in setup_of x.s x.matrix.now in
-    let clear : let x = c.args in refusal (deal_zero_all_rules setup x.random.now x.gs.now x.hs.now) ≡ 0 = sym c.lent_refusal-refusal.ensures ∙ c.if-refusal-ne0.false in
+    let clear : let x = c.args in refusal (deal_zero_all_rules setup x.random.now x.gs.now x.hs.now) ≡ 0 = sym c.in_ok-check_lent.ensures in
     let ok : let x = c.args in let S = setup in DealZeroOk S x.random.now × (length x.gs.now ≡ S.n * dim S) × (length x.hs.now ≡ S.n * S.e) = let x = c.args in deal_zero_all-ok setup x.random.now x.gs.now x.hs.now clear in
     zero_room setup _ ok.0
 
 pub slice_bounds-columns-end : goal.slice_bounds-columns-end
 slice_bounds-columns-end c =
     let setup : Setup = let x = c.args in setup_of x.s x.matrix.now in
-    let clear : let x = c.args in refusal (deal_zero_all_rules setup x.random.now x.gs.now x.hs.now) ≡ 0 = sym c.lent_refusal-refusal.ensures ∙ c.if-refusal-ne0.false in
+    let clear : let x = c.args in refusal (deal_zero_all_rules setup x.random.now x.gs.now x.hs.now) ≡ 0 = sym c.in_ok-check_lent.ensures in
     let ok : let x = c.args in let S = setup in DealZeroOk S x.random.now × (length x.gs.now ≡ S.n * dim S) × (length x.hs.now ≡ S.n * S.e) = let x = c.args in deal_zero_all-ok setup x.random.now x.gs.now x.hs.now clear in
     omega (arith, columns-few setup ok.0.setup)
 
 pub slice_bounds-write_all-end-2 : goal.slice_bounds-write_all-end-2
 slice_bounds-write_all-end-2 c =
     let setup : Setup = let x = c.args in setup_of x.s x.matrix.now in
-    let clear : let x = c.args in refusal (deal_zero_all_rules setup x.random.now x.gs.now x.hs.now) ≡ 0 = sym c.lent_refusal-refusal.ensures ∙ c.if-refusal-ne0.false in
+    let clear : let x = c.args in refusal (deal_zero_all_rules setup x.random.now x.gs.now x.hs.now) ≡ 0 = sym c.in_ok-check_lent.ensures in
     let ok : let x = c.args in let S = setup in DealZeroOk S x.random.now × (length x.gs.now ≡ S.n * dim S) × (length x.hs.now ≡ S.n * S.e) = let x = c.args in deal_zero_all-ok setup x.random.now x.gs.now x.hs.now clear in
     let lent : length (zeros setup) ≡ setup.n * dim setup = length-take-le (setup.n * dim setup) (replicate 512 0) (columns-few setup ok.0.setup) in
     sym lent
@@ -61,7 +45,7 @@ slice_bounds-write_all-end-2 c =
 pub write_all-requires : goal.write_all-requires
 write_all-requires c =
     let setup : Setup = let x = c.args in setup_of x.s x.matrix.now in
-    let clear : let x = c.args in refusal (deal_zero_all_rules setup x.random.now x.gs.now x.hs.now) ≡ 0 = sym c.lent_refusal-refusal.ensures ∙ c.if-refusal-ne0.false in
+    let clear : let x = c.args in refusal (deal_zero_all_rules setup x.random.now x.gs.now x.hs.now) ≡ 0 = sym c.in_ok-check_lent.ensures in
     let ok : let x = c.args in let S = setup in DealZeroOk S x.random.now × (length x.gs.now ≡ S.n * dim S) × (length x.hs.now ≡ S.n * S.e) = let x = c.args in deal_zero_all-ok setup x.random.now x.gs.now x.hs.now clear in
     let lent : length (zeros setup) ≡ setup.n * dim setup = length-take-le (setup.n * dim setup) (replicate 512 0) (columns-few setup ok.0.setup) in
     let x = c.args in
@@ -71,7 +55,7 @@ write_all-requires c =
 pub slice_bounds-keep_last-end : goal.slice_bounds-keep_last-end
 slice_bounds-keep_last-end c =
     let setup : Setup = let x = c.args in setup_of x.s x.matrix.now in
-    let clear : let x = c.args in refusal (deal_zero_all_rules setup x.random.now x.gs.now x.hs.now) ≡ 0 = sym c.lent_refusal-refusal.ensures ∙ c.if-refusal-ne0.false in
+    let clear : let x = c.args in refusal (deal_zero_all_rules setup x.random.now x.gs.now x.hs.now) ≡ 0 = sym c.in_ok-check_lent.ensures in
     let ok : let x = c.args in let S = setup in DealZeroOk S x.random.now × (length x.gs.now ≡ S.n * dim S) × (length x.hs.now ≡ S.n * S.e) = let x = c.args in deal_zero_all-ok setup x.random.now x.gs.now x.hs.now clear in
     let lent : length (zeros setup) ≡ setup.n * dim setup = length-take-le (setup.n * dim setup) (replicate 512 0) (columns-few setup ok.0.setup) in
     let S = setup in
@@ -82,7 +66,7 @@ slice_bounds-keep_last-end c =
 pub keep_last-requires : goal.keep_last-requires
 keep_last-requires c =
     let setup : Setup = let x = c.args in setup_of x.s x.matrix.now in
-    let clear : let x = c.args in refusal (deal_zero_all_rules setup x.random.now x.gs.now x.hs.now) ≡ 0 = sym c.lent_refusal-refusal.ensures ∙ c.if-refusal-ne0.false in
+    let clear : let x = c.args in refusal (deal_zero_all_rules setup x.random.now x.gs.now x.hs.now) ≡ 0 = sym c.in_ok-check_lent.ensures in
     let ok : let x = c.args in let S = setup in DealZeroOk S x.random.now × (length x.gs.now ≡ S.n * dim S) × (length x.hs.now ≡ S.n * S.e) = let x = c.args in deal_zero_all-ok setup x.random.now x.gs.now x.hs.now clear in
     let lent : length (zeros setup) ≡ setup.n * dim setup = length-take-le (setup.n * dim setup) (replicate 512 0) (columns-few setup ok.0.setup) in
     let S = setup in
@@ -99,7 +83,7 @@ keep_last-requires c =
 pub returns : goal.returns
 returns c =
     let setup : Setup = let x = c.args in setup_of x.s x.matrix.now in
-    let clear : let x = c.args in refusal (deal_zero_all_rules setup x.random.now x.gs.now x.hs.now) ≡ 0 = sym c.lent_refusal-refusal.ensures ∙ c.if-refusal-ne0.false in
+    let clear : let x = c.args in refusal (deal_zero_all_rules setup x.random.now x.gs.now x.hs.now) ≡ 0 = sym c.in_ok-check_lent.ensures in
     let ok : let x = c.args in let S = setup in DealZeroOk S x.random.now × (length x.gs.now ≡ S.n * dim S) × (length x.hs.now ≡ S.n * S.e) = let x = c.args in deal_zero_all-ok setup x.random.now x.gs.now x.hs.now clear in
     let lent : length (zeros setup) ≡ setup.n * dim setup = length-take-le (setup.n * dim setup) (replicate 512 0) (columns-few setup ok.0.setup) in
     let x = c.args in

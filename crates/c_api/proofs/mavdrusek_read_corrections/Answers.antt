@@ -1,7 +1,0 @@
--- The call's contract says it.
-use Rattle.base.specs.Rules.{Answer}
-use mathlib.Core.Path.{ap, ◌∙◌}
-use Rattle.c_api.proofs.mavdrusek_read_corrections.Goals as goal
-
-pub returns : goal.returns
-returns c = record { answer = c.declined.ensures ∙ ap (λ (a : Answer). a.number) c.read.ensures.result_value; left = c.read.ensures.corrections_after }

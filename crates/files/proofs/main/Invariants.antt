@@ -1,8 +1,0 @@
-use Prim.Native.Nat.{◌-◌, ◌≤◌}
-use Rattle.files.proofs.main.Given as goal
-
-abbrev pub invariant-loop-i : goal.invariant-loop-i
-invariant-loop-i l = l.i ≤ 10000
-
-abbrev pub decreases-loop-i : goal.decreases-loop-i
-decreases-loop-i l = 10000 - l.i

@@ -1,5 +1,0 @@
--- The rules of the table, in its order.
-use Rattle.record_layouts.proofs.pair_faults.Goals as goal
-
-pub returns : goal.returns
-returns c = cc

@@ -1,5 +1,0 @@
--- The rules of the table, in its order.
-use Rattle.scheme.proofs.limits_and_matrix.Goals as goal
-
-pub returns : goal.returns
-returns c = cc
