@@ -1,23 +1,24 @@
 -- Index arithmetic of flat matrices: a row and an entry lie inside, two rows do not overlap; and what keeps elements below p.
-use Prim.Native.Nat.{ℕ, zero, suc, ◌+◌, ◌*◌, ◌/◌, ◌%◌, ◌≤◌, ◌<◌}
-use mathlib.Core.Bool.{true, false, not, not-not, ◌||◌}
-use mathlib.Core.List.{List}
+use Prim.Native.Nat.{ℕ, zero, suc, ◌+◌, ◌*◌, ◌/◌, ◌%◌, ◌≤◌, ◌<◌, max}
+use mathlib.Core.Bool.{true, false, not, not-not, ◌&&◌, ◌||◌, and_assoc, and-true}
+use mathlib.Core.List.{List, [], ◌∷◌}
 use mathlib.Core.Logic.{◌≢◌, ◌⊎◌, inl, inr}
-use mathlib.Core.Path.{◌≡◌, sym, ◌∙◌}
+use mathlib.Core.Path.{◌≡◌, ap, sym, ◌∙◌}
 use native.Mathlib.Nat.{mul-le-mul_right, suc-mul, mul-zero, mod-lt, div-lt_iff_lt-mul}
 use native.Mathlib.Decide.{dec_lt}
 use native.Mathlib.Omega.{arith}
 use lib.Dec.{eqb, leb, ltb}
 use lib.ListN.{length, get_or, set, replicate, length-replicate, get_or-replicate, get_or-eq_default}
 use lib.Seq.{get_or-set_same, get_or-set_other, set_out}
-use borrow.Author.Tests.{eqb-true, eq-eqb, ltb-true, lt-ltb}
+use borrow.Author.Tests.{eqb-true, eq-eqb, ltb-true, lt-ltb, le-leb}
 use Rattle.std.specs.List.{fold}
 use Rattle.std.proofs.lemmas.Bool.Decides.{nat_tests}
 use Rattle.base.specs.Fill.{tab, laid, filled}
 use Rattle.base.specs.Matrix.{Below, all_below, all_are}
+use Rattle.base.specs.Search.{every}
 use Rattle.base.proofs.Choice.{either}
 use Rattle.base.proofs.Fill.{get_d-tab, length-tab, length-filled, get_d-filled, get_d-filled-past}
-use Rattle.base.proofs.Search.{every-at, every-all, every-ext, fold-any}
+use Rattle.base.proofs.Search.{every-at, every-all, every-ext, every-fails, every-front, fold-any}
 
 pub row_fits : (rows d r : ℕ) → r < rows → r * d + d ≤ rows * d
 row_fits rows d r h = omega (arith, mul-le-mul_right d h, suc-mul r d)
@@ -109,9 +110,32 @@ place_at (suc d) n t h = (omega arith, (div-lt_iff_lt-mul {k = suc d} {x = t} {y
 pub not-leb : (p x : ℕ) → not (leb p x) ≡ ltb x p
 not-leb p x = grind (arith, nat_tests)
 
-pub below-fold : (p : ℕ) (l : List ℕ) → all_below p l ≡ not (fold (λ over x. over || leb p x) false l)
+-- nothing stands above any number in an empty list
+pub none-below : (p : ℕ) (l : List ℕ) → length l ≡ 0 → leb 0 p ≡ all_below p l
+unfolding all_below every
+none-below p [] e = le-leb 0 p (omega arith)
+none-below p (x ∷ l) e = absurd (omega (arith, e))
+
+most-from : (p m : ℕ) (l : List ℕ) → ltb (fold max m l) p ≡ (ltb m p && every (length l) (λ i. ltb (get_or l i 0) p))
+unfolding every
+most-from p m [] = sym (and-true (ltb m p))
+most-from p m (x ∷ l) =
+    most-from p (max m x) l
+    ∙ ap (λ b. b && every (length l) (λ i. ltb (get_or l i 0) p)) (larger m x)
+    ∙ and_assoc (ltb m p) (ltb x p) (every (length l) (λ i. ltb (get_or l i 0) p))
+    ∙ ap (λ b. ltb m p && b) (sym (every-front (length l) (λ i. ltb (get_or (x ∷ l) i 0) p)))
+  where
+    larger : (m x : ℕ) → ltb (max m x) p ≡ (ltb m p && ltb x p)
+    larger m x = grind (arith, nat_tests)
+
+-- the largest entry of a list that is not empty
+pub most-fold : (p : ℕ) (l : List ℕ) → length l ≢ 0 → ltb (fold max 0 l) p ≡ all_below p l
 unfolding all_below
-below-fold p l = sym (fold-any (λ x. leb p x) false 0 l ∙ every-ext (length l) _ _ (λ i h. not-leb p (get_or l i 0)))
+most-fold p [] e = absurd (e (omega arith))
+most-fold zero (x ∷ l) e =
+    most-from zero 0 (x ∷ l) ∙ sym (every-fails (length (x ∷ l)) (λ i. ltb (get_or (x ∷ l) i 0) zero) 0 (omega arith) (grind (arith, nat_tests)))
+most-fold (suc p) (x ∷ l) e =
+    most-from (suc p) 0 (x ∷ l) ∙ ap (λ b. b && every (length (x ∷ l)) (λ i. ltb (get_or (x ∷ l) i 0) (suc p))) (lt-ltb 0 (suc p) (omega arith))
 
 pub are-fold : (x : ℕ) (l : List ℕ) → all_are x l ≡ not (fold (λ other y. other || not (eqb y x)) false l)
 unfolding all_are

@@ -1,6 +1,6 @@
 -- Rows of d entries, written one entry of each after the other.
 -- Begun: the first j entries of each of c rows, from place a on, are those of e
-use mathlib.Core.Path.{◌≡◌, sym, ap, ◌∙◌}
+use mathlib.Core.Path.{◌≡◌, refl, sym, ap, ◌∙◌}
 use mathlib.Core.List.{List}
 use mathlib.Core.Logic.{⊎_elim}
 use Prim.Native.Nat.{ℕ, ◌+◌, ◌*◌, ◌/◌, ◌%◌, ◌≤◌, ◌<◌}
@@ -17,6 +17,9 @@ use Rattle.base.proofs.Matrix.{entry-fits, rows_apart, place_at}
 
 -- ENTRIES PUT APART
 module _ (d a : ℕ) (entries x : List ℕ) where
+  pub put-none : Put d 0 a entries x x
+  put-none = record { size = refl; written = λ t l. absurd (omega arith); kept = λ k h. refl }
+
   pub put_step : (r : ℕ) (l : List ℕ) → 0 < d → a + r * d < length x → Put d r a entries x l → Put d (r + 1) a entries x (set l (a + r * d) (get_or entries r 0))
   put_step r l pos f w =
       record {

@@ -45,7 +45,7 @@ every-ext zero t u h = refl
 every-ext (suc n) t u h = rw (every-ext n t u (λ i l. h i (omega arith)), h n (omega arith)) refl
 
 -- the first number set apart
-every-front : (n : ℕ) (t : ℕ → Bool) → every (suc n) t ≡ (t 0 && every n (λ i. t (suc i)))
+pub every-front : (n : ℕ) (t : ℕ → Bool) → every (suc n) t ≡ (t 0 && every n (λ i. t (suc i)))
 unfolding every
 every-front zero t = sym (and-true (t 0))
 every-front (suc n) t = ap (λ b. b && t (suc n)) (every-front n t) ∙ and_assoc (t 0) (every n (λ i. t (suc i))) (t (suc n))

@@ -1,7 +1,7 @@
 // What the layers above share in code: a refusal table's rule, an entry widened, a test of a whole slice, a part of one copied.
 #![tactic(auto)]
 
-ghost use Rattle.std.specs.Prelude.{◌≡◌, ◌+◌, ◌<◌, ◌≤◌, length, get_or};
+ghost use Rattle.std.specs.Prelude.{◌≡◌, ◌+◌, ℕ, ◌<◌, ◌≤◌, leb, length, get_or};
 ghost use Rattle.base.specs.Rules.{or_when};
 ghost use Rattle.base.specs.Refusals.{number, refused_by};
 ghost use Rattle.base.specs.Fill.{laid};
@@ -83,11 +83,22 @@ pub fn at(s: &[u16], i: usize) -> u64
     u64::from(s[i])
 }
 
-// Whether every entry is below p. It reads the whole slice, so that it takes the same time for every content.
+// The lowest number that every entry is below: one more than the largest, 0 of none. It reads the whole slice and gives one number, so that it takes the
+// same time for every content, and lists are tested together by the largest of their bounds, in one branch.
+pub fn bound(s: &[u16]) -> u32
+    ensures { (p : ℕ) → leb result p ≡ all_below p s.now }
+{
+    if s.is_empty() {
+        return 0;
+    }
+    u32::from(s.iter().fold(0, |most, x| most.max(*x))) + 1
+}
+
+// Whether every entry is below p.
 pub fn all_below(s: &[u16], p: u16) -> bool
     ensures { result ≡ all_below p s.now }
 {
-    !s.iter().fold(false, |over, x| over | (p <= *x))
+    bound(s) <= u32::from(p)
 }
 
 // Whether every entry is x. It reads the whole slice too.

@@ -1,7 +1,7 @@
 -- What the shares give by interpolation is what the four openings are, by scheme's laws of openings on a points matrix.
 -- key-values: every share on its column's polynomial: the key from the positions
 -- key-differs: some share is not: refusal 7
--- Ends: the answer of an opening whose table passes, and what it leaves; ends-few, ends-apart, ends-no-byte and ends-key are its four ways
+-- Ends: the answer of an opening whose table passes, and what it leaves; ends-few, ends-differs, ends-no-byte and ends-key are its four ways
 use mathlib.Core.Path.{◌≡◌, refl, sym, ap, ◌∙◌}
 use mathlib.Core.Bool.{Bool, true, false, not, true≢false}
 use mathlib.Core.List.{List, []}
@@ -13,7 +13,7 @@ use lib.ListN.{length}
 use Rattle.base.specs.Rules.{Answer, refused, given, left_by}
 use Rattle.base.specs.Search.{Vec}
 use Rattle.base.specs.Fill.{tab}
-use Rattle.base.specs.Matrix.{entry, Below, all_below, flat}
+use Rattle.base.specs.Matrix.{entry, Below, all_below}
 use Rattle.base.proofs.Fill.{length-tab, get_d-tab, tab-is, tab-ext}
 use Rattle.base.proofs.Matrix.{below_by, below-is}
 use Rattle.field.specs.Dot.{at, dot}
@@ -27,8 +27,7 @@ use Rattle.scheme.proofs.Members.{members-wide}
 use Rattle.scheme.proofs.Certificates.{opened-in-hand}
 use Rattle.scheme.proofs.PointSets.{node}
 use Rattle.scheme.proofs.Interpolated as paper
-use Rattle.std.specs.Prelude.{None}
-use Rattle.key_values.specs.Inner.{AllAgreed, all, differs, depots, curve, Interpolates, Interpolated}
+use Rattle.key_values.specs.Inner.{AllAgreed, all, differs, depots, curve, Interpolates}
 use Rattle.board_keys.specs.Keys.{key_setup, member_count, column_shares, column_opened, key_opening}
 use Rattle.board_keys.specs.Inner.{KeyTaken}
 use Rattle.board_keys.proofs.Setup.{key-points}
@@ -124,7 +123,7 @@ module _ (s : ℕ) (xs out : List ℕ) (ok : KeyTaken s xs out) (k : ℕ) (count
     enough : 7 ≤ member_count s
     enough = omega (arith, many, counted)
 
-    ends-differs : not r ≡ true → Ends s xs out inconsistent out
+    pub ends-differs : not r ≡ true → Ends s xs out inconsistent out
     ends-differs e = rw (key-differs s xs ok.inside enough ok.shares I (not-true r e)) (refl, refl)
 
     module _ (all : not r ≡ false) where
@@ -138,7 +137,3 @@ module _ (s : ℕ) (xs out : List ℕ) (ok : KeyTaken s xs out) (k : ℕ) (count
       ends-key e h =
           rw (is_key, not-false (all_below 256 values) e)
           (refl, h ∙ sym (tab-is 16 (at values) 0 values (ap length I.positions ∙ length-tab 16 _) (λ t l. refl)))
-
-  pub ends-apart : 7 ≤ k → Interpolated (depots s) xs None → Ends s xs out inconsistent out
-  ends-apart many h =
-      ends-differs many {values = tab 16 (flat 4 (λ b q. curve (depots s) xs b q % 257))} {r = false} (record { positions = refl; further = h }) refl

@@ -1,4 +1,5 @@
 -- Rounds of a key, column by column.
+-- agree-tab: a list's rounds agree exactly where each is the first
 -- column-agrees: what the test of one column says
 -- one-round: all the rounds one number, so those of each column
 use mathlib.Core.Path.{◌≡◌, refl, ap, ◌∙◌}
@@ -7,18 +8,26 @@ use mathlib.Core.List.{List, [], ◌∷◌}
 use Prim.Native.Nat.{ℕ, ◌+◌, ◌-◌, ◌*◌, ◌<◌}
 use native.Mathlib.Omega.{arith}
 use lib.Arith.{digits_lt}
+use lib.Dec.{eqb}
 use lib.ListN.{length, take, drop}
 use Rattle.std.proofs.lemmas.List.{get_or-take, get_or-drop, length-take-le, length-drop}
 use Rattle.base.specs.Search.{every}
 use Rattle.base.specs.Fill.{tab, tab_from}
 use Rattle.base.specs.Matrix.{entry, all_are}
-use Rattle.base.proofs.Search.{every-all}
+use Rattle.base.proofs.Search.{every-all, every-ext}
 use Rattle.base.proofs.Fill.{length-tab, get_d-tab, tab-is}
 use Rattle.base.proofs.Matrix.{row_fits}
+use Rattle.field.specs.Dot.{at}
 use Rattle.scheme.specs.Sets.{members, members_from}
 use Rattle.scheme.specs.Opening.{agree, round_of}
-use Rattle.scheme.proofs.Rounds.{agree_at, agree-is}
+use Rattle.scheme.proofs.Rounds.{round-first, agree_at, agree-is}
 use Rattle.board_keys.specs.Keys.{column_shares, columns_agree}
+
+pub agree-tab : (k : ℕ) (f : ℕ → ℕ) → agree (tab k f) ≡ every k (λ a. eqb (f a) (f 0))
+unfolding all_are
+agree-tab k f =
+    ap (λ n. every n (λ a. eqb (at (tab k f) a) (round_of (tab k f)))) (length-tab k f)
+    ∙ every-ext k _ _ (λ a l. rw (get_d-tab k f 0 a l, round-first (tab k f) ∙ get_d-tab k f 0 0 (omega arith)) refl)
 
 -- a column of the rounds, as a part of their list
 column-part : (k b : ℕ) (rs : List ℕ) → length rs ≡ 4 * k → b < 4 → take ((b * k + k) - b * k) (drop (b * k) rs) ≡ tab k (entry k rs b)

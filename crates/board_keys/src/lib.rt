@@ -93,7 +93,7 @@ fn open_in_order(set: u32, shares: &[u16], key: &mut [u8]) -> Result<(), NotOpen
     if set_systems::size(set) < 7 {
         return Err(NotOpened::Undetermined(0));
     }
-    let Some(values) = key_values::interpolate(set, shares) else {
+    let Ok(values) = key_values::interpolate(set, shares) else {
         return Err(NotOpened::Inconsistent);
     };
     if !base::all_below(&values, 256) {

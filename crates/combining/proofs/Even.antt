@@ -1,10 +1,11 @@
--- Where one pass over elements and rounds finds nothing odd, a combination in a field is refused by nothing.
+-- Where a combination is refused by nothing, one pass over elements and rounds finds nothing odd, and the other way.
 -- or-none, xor-none: of two numbers' bits none is set, or they differ in none
 -- none-above: a number is not above another
 -- odd_step: one place more
--- even-all: of even elements and rounds, the elements are below p and the rounds agree
+-- all-even: elements below p and rounds that agree are even; even-all: and the other way
 -- is-field: rule 1 does not apply
--- combine-fine: nothing is refused of a combination of which nothing is odd
+-- combine-long, combine-even, combine-fine: a combination of which nothing is refused, and one of which nothing is odd
+-- no-field-refused: of no field, it is refused by 1
 use mathlib.Core.Path.{◌≡◌, refl, sym, ap, ◌∙◌}
 use mathlib.Core.Bool.{Bool, true, false, not, ◌&&◌, false≢true}
 use mathlib.Core.List.{List}
@@ -13,19 +14,19 @@ use native.Mathlib.Omega.{arith}
 use lib.Bits.{bit_or, bit_xor, or_add_and, xor_add_and, and_le_l, and_le_r, xor_self}
 use lib.Dec.{eqb, leb}
 use lib.ListN.{length}
-use borrow.Author.Tests.{eqb-true, eqb-false, eq-eqb, ne_eqb, leb-true, leb-false}
+use borrow.Author.Tests.{eqb-true, eqb-false, eq-eqb, ne_eqb, leb-true, leb-false, le-leb}
 use Rattle.base.specs.Rules.{or_when, refusal}
 use Rattle.base.specs.Search.{every}
 use Rattle.base.specs.Matrix.{all_below}
-use Rattle.base.proofs.Search.{every-step, every-at}
-use Rattle.base.proofs.Matrix.{below-is}
+use Rattle.base.proofs.Search.{every-step, every-at, every-all}
+use Rattle.base.proofs.Matrix.{below-is, below_by}
 use Rattle.field.specs.Fields.{is_field}
 use Rattle.field.specs.Dot.{at}
 use Rattle.field.proofs.Fields.{five-elim, field-five}
 use Rattle.scheme.specs.Opening.{round_of, agree}
 use Rattle.scheme.specs.Calls.{combine_rules}
-use Rattle.scheme.proofs.Calls.{vec_of, combine-accepts}
-use Rattle.scheme.proofs.Rounds.{agree-is}
+use Rattle.scheme.proofs.Calls.{vec_of, combine-ok, combine-accepts}
+use Rattle.scheme.proofs.Rounds.{agree_at, agree-is}
 use Rattle.combining.specs.Inner.{even, as_long}
 
 -- BITS
@@ -78,6 +79,14 @@ module _ (p : ℕ) (us vs rs : List ℕ) (pos : 0 < p) (small : p < 65536) where
   abbrev most : ℕ
   most = (p + 65535) % 65536
 
+  pub all-even : all_below p us ≡ true → all_below p vs ≡ true → length vs ≡ length us → length rs ≡ length us → agree rs ≡ true
+      → every (length us) (even ((p + 65535) % 65536) us vs rs (round_of rs)) ≡ true
+  unfolding even
+  all-even a b m n one =
+      every-all (length us) (even most us vs rs (round_of rs)) (λ i l.
+      rw (le-leb (at us i) most (omega (arith, below_by p us pos a i)), le-leb (at vs i) most (omega (arith, below_by p vs pos b i)))
+      (eq-eqb (at rs i) (round_of rs) (agree_at rs one i (omega (arith, l, n)))))
+
   pub even-all : every (length us) (even ((p + 65535) % 65536) us vs rs (round_of rs)) ≡ true → length vs ≡ length us → length rs ≡ length us
       → (all_below p us ≡ true) × (all_below p vs ≡ true) × (agree rs ≡ true)
   unfolding even
@@ -114,7 +123,20 @@ module _ (p : ℕ) (cs xs rs : List ℕ) where
       let h = both (eqb (length xs) (length cs)) (eqb (length rs) (length cs)) (leb (length cs) 64) e in
       (eqb-true (length xs) (length cs) h.0, eqb-true (length rs) (length cs) h.1, leb-true (length cs) 64 h.2)
 
-  -- of right lengths and with nothing odd, in a field, nothing is refused
+  -- nothing refused is of the right lengths, and nothing of it is odd
+  pub combine-long : refusal (combine_rules p cs xs rs) ≡ 0 → long ≡ true
+  combine-long z =
+      let k = combine-ok p cs xs rs z in
+      rw (eq-eqb (length xs) (length cs) k.shares.size, eq-eqb (length rs) (length cs) k.rounds) (le-leb (length cs) 64 k.few)
+
+  pub combine-even : refusal (combine_rules p cs xs rs) ≡ 0 → all ≡ true
+  combine-even z =
+      let k = combine-ok p cs xs rs z in
+      let r = in-range p k.field in
+      all-even p cs xs rs r.0 r.1 (below-is p cs k.constants.small) (below-is p xs (λ i l. k.shares.small i (omega (arith, l, k.shares.size))))
+      k.shares.size k.rounds k.one-round
+
+  -- and the other way, in a field
   pub combine-fine : is_field p ≡ true → long ≡ true → all ≡ true → refusal (combine_rules p cs xs rs) ≡ 0
   combine-fine f e h =
       let r = in-range p f in
@@ -129,3 +151,6 @@ module _ (p : ℕ) (cs xs rs : List ℕ) where
         few = l.2;
         one-round = k.2;
       })
+
+  pub no-field-refused : not (is_field p) ≡ true → refusal (combine_rules p cs xs rs) ≡ 1
+  no-field-refused e = rw e refl

@@ -2,11 +2,11 @@
 // works on inputs that are in order. The work neither branches on nor indexes by a secret or a random entry.
 #![tactic(auto)]
 
-ghost use Rattle.std.specs.Prelude.{◌≡◌, [], ◌++◌, ℕ, ◌+◌, ◌-◌, ◌*◌, ◌<◌, ◌≤◌, length};
+ghost use Rattle.std.specs.Prelude.{◌≡◌, ◌&&◌, [], ◌++◌, ℕ, ◌+◌, ◌-◌, ◌*◌, ◌<◌, ◌≤◌, leb, length};
 ghost use Rattle.base.specs.Rules.{refusal};
 ghost use Rattle.base.specs.Refusals.{refused_by};
 ghost use Rattle.base.specs.Fill.{filled, laid};
-ghost use Rattle.base.specs.Matrix.{flat};
+ghost use Rattle.base.specs.Matrix.{flat, all_below};
 ghost use Rattle.field.specs.Dot.{along};
 ghost use Rattle.scheme.specs.Setup.{setup_of};
 ghost use Rattle.scheme.specs.Answers.{paper_written};
@@ -71,6 +71,13 @@ pub fn check_input_sizes(
     scheme::check_size(random.len(), random_len(s))
 }
 
+// The bound of the secret and the random entries together: what is tested of it is one branch that depends on them.
+pub fn secret_bound(secrets: &[u16], random: &[u16]) -> u32
+    ensures { (p : ℕ) → leb result p ≡ (all_below p secrets.now && all_below p random.now) }
+{
+    base::bound(secrets).max(base::bound(random))
+}
+
 // Refusal 4 of what both calls take.
 pub fn check_input_elements(
     s: Params,
@@ -81,8 +88,10 @@ pub fn check_input_elements(
     ensures { refused_by result ≡ refusal (in_field s.p (deal_lent (setup_of s matrix.now) secrets.now random.now)) }
 {
     scheme::check_elements(s.p, matrix)?;
-    scheme::check_elements(s.p, secrets)?;
-    scheme::check_elements(s.p, random)
+    base::refuse_if(
+        u32::from(s.p) < secret_bound(secrets, random),
+        Refusal::Element,
+    )
 }
 
 fn check_deal(

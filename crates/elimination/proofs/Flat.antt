@@ -124,7 +124,7 @@ module _ (p W k c : ℕ) where
     own-entry h = e ∙ rw (ne_eqb (r * W) (k * W) (λ s. ⊎_elim (λ m. omega arith) (λ m. omega arith) (rows_apart W r k h)))
 
     -- it is the pivot row or has no entry: it stays and does not count
-    passed : f ≡ 0 → (b ≡ clear_row p W k c r b) × (bit (elsewhere k (λ i. entry W b i c) r) ≡ 0)
+    pub passed : f ≡ 0 → (b ≡ clear_row p W k c r b) × (bit (elsewhere k (λ i. entry W b i c) r) ≡ 0)
     unfolding clear_row elsewhere bit
     passed z =
         either r k _
@@ -132,10 +132,10 @@ module _ (p W k c : ℕ) where
         (λ h. let v = eq-eqb (entry W b r c) 0 (sym (own-entry h) ∙ z) in (rw (ne_eqb r k h, v) refl, rw (ne_eqb k r (λ s. h (sym s)), v) refl))
 
     -- or a multiple of the pivot row is subtracted
-    not-pivot : f ≢ 0 → r ≢ k
+    pub not-pivot : f ≢ 0 → r ≢ k
     not-pivot n h = n (e ∙ rw (eq-eqb (r * W) (k * W) (ap (λ x. x * W) h)))
 
-    cleared : f ≢ 0 → (add_row p (p - f) (r * W) (k * W) W b ≡ clear_row p W k c r b) × (bit (elsewhere k (λ i. entry W b i c) r) ≡ 1)
+    pub cleared : f ≢ 0 → (add_row p (p - f) (r * W) (k * W) W b ≡ clear_row p W k c r b) × (bit (elsewhere k (λ i. entry W b i c) r) ≡ 1)
     unfolding clear_row elsewhere bit
     cleared n =
         let h = not-pivot n in
@@ -154,7 +154,7 @@ module _ (p W k c : ℕ) where
     here : f ≡ other_entry b (r * W) (k * W) c
     here = e ∙ ap (λ z. other_entry b z (k * W) c) q
 
-    one-more : x ≡ clear_row p W k c r b → bit (elsewhere k (λ i. entry W b i c) r) + n ≡ m → ColumnCleared p (r + 1) W k c a x m
+    pub one-more : x ≡ clear_row p W k c r b → bit (elsewhere k (λ i. entry W b i c) r) + n ≡ m → ColumnCleared p (r + 1) W k c a x m
     unfolding clear_to others elsewhere sum
     one-more g h =
         record {

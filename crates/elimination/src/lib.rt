@@ -28,7 +28,8 @@ fn clear_column(a: &mut [u16], rows: usize, width: usize, k: usize, col: usize, 
     let q = k * width;
     let end = rows * width;
     let mut steps = 0;
-    // A `while`: over `0..rows` or by `step_by` the compiler tests at each column whether rows overlap, and an elimination took 1.1 to 3 times as long.
+    // A `while`: over `0..rows` the compiler tests at each column whether rows overlap, and an elimination took 1.1 to 3 times as long; by `step_by` it took up to
+    // 1.17 times.
     let mut t = 0;
     while t < end {
         let f = other_entry(a, t, q, col);

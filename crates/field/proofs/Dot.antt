@@ -1,13 +1,15 @@
 -- The laws of products: y (G x) = (y G) x, a combination of vectors, and what a row for a position reads.
 use mathlib.Core.Path.{◌≡◌, refl, sym, ap, ap₂, ◌∙◌, ◌≡⟨◌⟩◌, ◌∎}
+use mathlib.Core.List.{List}
 use Prim.Native.Nat.{ℕ, ◌+◌, ◌*◌, ◌%◌, ◌≤◌, ◌<◌}
 use native.Mathlib.Numerals.{add-one}
 use native.Mathlib.Omega.{arith}
 use native.Mathlib.Nat.{zero-mod}
+use lib.ListN.{get_or}
 use Rattle.base.specs.Sum.{sum, unit}
 use Rattle.base.proofs.Sum.{sum-add, sum-scale, sum-ext, sum-none, sum-swap, sum-unit, sum-le}
 use Rattle.field.proofs.Congruence.{cong-mul, sum-mod}
-use Rattle.field.specs.Dot.{dot, RowFor}
+use Rattle.field.specs.Dot.{dot, along, RowFor}
 
 pub dot-step : (d : ℕ) (u v : ℕ → ℕ) → dot (d + 1) u v ≡ dot d u v + u d * v d
 unfolding dot sum
@@ -24,6 +26,10 @@ dot-ext d u v w h = sum-ext d _ _ (λ i l. ap (λ z. u i * z) (h i l))
 pub dot-same : (d : ℕ) (u v w x : ℕ → ℕ) → ((j : ℕ) → j < d → u j ≡ v j) → ((j : ℕ) → j < d → w j ≡ x j) → dot d u w ≡ dot d v x
 unfolding dot
 dot-same d u v w x h k = sum-ext d _ _ (λ i l. ap₂ ◌*◌ (h i l) (k i l))
+
+-- entries that stand side by side
+pub dot-along : (d : ℕ) (u v : List ℕ) (a b : ℕ) → dot d (along u a 1) (along v b 1) ≡ dot d (λ k. get_or u (a + k) 0) (λ k. get_or v (b + k) 0)
+dot-along d u v a b = dot-same d _ _ _ _ (λ k l. ap (λ i. get_or u i 0) (omega arith)) (λ k l. ap (λ i. get_or v i 0) (omega arith))
 
 pub dot-comb : (d a b : ℕ) (u v w : ℕ → ℕ) → dot d (λ j. a * u j + b * v j) w ≡ a * dot d u w + b * dot d v w
 unfolding dot

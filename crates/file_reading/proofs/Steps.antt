@@ -32,14 +32,10 @@ use Rattle.record_words.proofs.Words.{length-words, get_d_words}
 use Rattle.record_layouts.specs.Records.{DealingParts, mark_su, mark_df, mark_dz, due, setup_at, setup_size, mapped_size, dealing_at, dealing_g, dealing_h, parts_h, mapped_phi, read_setup_rules, standing_rules, params_at}
 use Rattle.record_layouts.proofs.Calls.{setup-read, dim-small, matrix-small}
 use Rattle.record_layouts.proofs.Layouts.{Lawful, dealing-lawful, zero_lawful}
-use Rattle.base.specs.Refusals.{number}
-use Rattle.base.proofs.Refusals.{above_zero}
-use Rattle.file_records.specs.declared.Head.{Head}
-use Rattle.file_records.specs.declared.Fault.{Fault}
-use Rattle.file_records.specs.Received.{place, fault_at, reached}
+use Rattle.base.specs.Refusals.{refused_by}
 use Rattle.file_records.specs.declared.Sent.{Sent}
 use Rattle.file_records.specs.declared.PartLists.{PartLists}
-use Rattle.file_records.specs.Inner.{IsFault, IsSent, Small, HoldsPart}
+use Rattle.file_records.specs.Inner.{Sends, Small, HoldsPart}
 use Rattle.file_records.proofs.Reading.{all_pass, values-small, values2-small, verdicts-small}
 use Rattle.file_reading.specs.Contents.{Contents, is_mapped, is_zero, columns, part_layout, values2, verdict_of, judgement, fate, kept_shares, kept_mapped}
 use Rattle.file_reading.specs.File.{FileRead, refused_at, whole, setup_fault, has_zero, dealing_fault, has_map, mapped_rules, mapped_fault, first_byte, start, head_of, kind_at, of_contents, or_refused, of_received, of_mapped, of_dealing, read_file, eight, params_of, told}
@@ -297,51 +293,43 @@ shares-read S k t r H =
     H.shares ∙ rw (w, length-words t 3 S.l) (ap (λ (l : List ℕ). words_at t 3 S.l ++ l) (drop-zeros S.l 8))
 
 -- ALL RECORDS, by what was received
-module _ (s : List ℕ) (F : Fair s) (z : mapped_fault (setup_at s) (dealing_at (part_of s)) (zero_in s) (second_of s) ≡ 0) where
+module _ (s : List ℕ) (F : Fair s) (z : mapped_fault (setup_at s) (dealing_at (part_of s)) (zero_in s) (second_of s) ≡ 0) (r : Sent)
+    (W : Sends (head_of (setup_at s) (dealing_at (part_of s)) (zero_in s) (tied_in s)) (drop (start (setup_at s) (zero_in s) (tied_in s)) s) r) where
   abbrev S : Setup
   S = setup_at s
 
   abbrev from : ℕ
   from = start (setup_at s) (zero_in s) (tied_in s)
 
-  abbrev head : Head
-  head = head_of (setup_at s) (dealing_at (part_of s)) (zero_in s) (tied_in s)
+  abbrev read : FileRead
+  read = of_contents (contents_in s (take (setup_at s).n r.values) (take (setup_at s).n r.values2) (take (setup_at s).n r.verdicts)) (length s)
 
-  pub sent-refused : (f : Fault) → IsFault head (drop from s) f → refused_at (number f.refusal) (from + f.byte) ≡ read_file s
+  all_read : or_refused (refused_by r.refused) (from + r.byte) read ≡ read_file s
   unfolding of_received
-  sent-refused f W =
+  all_read =
+      rw (W.number, W.byte, W.values, W.verdicts, kind-same S (zero_in s) (tied_in s) (second_of s) (take S.n r.values2) _ W.values2)
+      (file-next s F.setup S refl F.dealing refl refl refl refl z)
+
+  pub sent-refused : (refused_by r.refused ≡ 0 → ⊥) → refused_at (refused_by r.refused) (from + r.byte) ≡ read_file s
+  sent-refused n = refused-here (refused_by r.refused) (from + r.byte) read n ∙ all_read
+
+  pub record SentIs : Type 0 where
+    pub received : Vec S.p S.n (take S.n r.values)
+    pub received2 : tied_in s ≡ true → Vec S.p S.n (take S.n r.values2)
+    pub heard : Vec 2 S.n (take S.n r.verdicts)
+    pub is : read ≡ read_file s
+
+  pub sent-next : refused_by r.refused ≡ 0 → SentIs
+  sent-next none =
+      let h = head_of S (dealing_at (part_of s)) (zero_in s) (tied_in s) in
       let t = drop from s in
-      let k = fault_at head t (reached head t) in
-      rw (W.is, W.byte) (refused-here k (from + place head (reached head t)) _ (λ e. above_zero f.refusal (W.is ∙ e)) ∙ file-next s F.setup S refl F.dealing refl refl refl refl z)
-
-  module _ (r : Sent) (W : IsSent head (drop from s) r) where
-    abbrev read : FileRead
-    read = of_contents (contents_in s (take (setup_at s).n r.values) (take (setup_at s).n r.values2) (take (setup_at s).n r.verdicts)) (length s)
-
-    all_read : read ≡ read_file s
-    unfolding of_received
-    all_read =
-        let t = drop from s in
-        let k = fault_at head t (reached head t) in
-        rw (W.values, W.verdicts, kind-same S (zero_in s) (tied_in s) (second_of s) (take S.n r.values2) _ W.values2)
-        (goes_on k (from + place head (reached head t)) _ W.faultless ∙ file-next s F.setup S refl F.dealing refl refl refl refl z)
-
-    pub record SentIs : Type 0 where
-      pub received : Vec S.p S.n (take S.n r.values)
-      pub received2 : tied_in s ≡ true → Vec S.p S.n (take S.n r.values2)
-      pub heard : Vec 2 S.n (take S.n r.verdicts)
-      pub is : read ≡ read_file s
-
-    pub sent-next : SentIs
-    sent-next =
-        let t = drop from s in
-        let all = (all_pass head t W.faultless).1 in
-        record {
-          received = rw W.values (values-small head t all);
-          received2 = λ b. rw (W.values2 b) (values2-small head t all b);
-          heard = rw W.verdicts (verdicts-small head t all);
-          is = all_read;
-        }
+      let all = (all_pass h t (sym W.number ∙ none)).1 in
+      record {
+        received = rw W.values (values-small h t all);
+        received2 = λ b. rw (W.values2 b) (values2-small h t all b);
+        heard = rw W.verdicts (verdicts-small h t all);
+        is = goes_on (refused_by r.refused) (from + r.byte) read none ∙ all_read;
+      }
 
 -- WHAT IS TOLD
 pub fate-same : (s : Params) (m verdicts : List ℕ) → fate_of (setup_of s []) verdicts ≡ fate_of (setup_of s m) verdicts

@@ -4,7 +4,7 @@
 -- Fair: SU and DL or DZ are not refused
 -- Refuses: a fault is the refusal that is read
 -- FrontIn, ReadsFront: what stands in SU and DL or DZ; what the stage that reads them gives
--- MapIn, ReadsMap: what is read of a DF behind them; what the stage that reads it gives
+-- MapIn, MapRefused, ReadsMap: what is read of a DF behind them, and why it is refused; what the stage that reads it gives
 -- contents_in, PartsIn, ReadsParts: what stands in all records; what the stage that reads them gives
 -- JudgedIn: the judgement of the contents, and the shares that stand in DL or DZ, and DF
 -- TellsWhole, Tells: what the code gives is what is read
@@ -58,9 +58,16 @@ pub record MapIn (s : List ℕ) (r : SecondFront) : Type 0 where
   pub fair : mapped_fault (setup_at s) (dealing_at (part_of s)) (zero_in s) (second_of s) ≡ 0
   pub byte : r.byte ≡ start (setup_at s) (zero_in s) (tied_in s)
 
+-- the DF there is refused, by its own rules and at its start
+pub record MapRefused (s : List ℕ) (f : Fault) : Type 0 where
+  pub mapped : tied_in s ≡ true
+  pub fault : number f.refusal ≡ mapped_fault (setup_at s) (dealing_at (part_of s)) (zero_in s) (second_of s)
+  pub byte : f.byte ≡ first_byte (setup_at s) (zero_in s)
+  pub read : Refuses (read_file s) f
+
 abbrev pub ReadsMap : List ℕ → Result SecondFront Fault → Type 0
 ReadsMap s (Ok r) = MapIn s r
-ReadsMap s (Err f) = Refuses (read_file s) f
+ReadsMap s (Err f) = MapRefused s f
 
 abbrev pub contents_in : (s values values2 verdicts : List ℕ) → Contents
 contents_in s values values2 verdicts =

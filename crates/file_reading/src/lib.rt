@@ -185,26 +185,25 @@ fn read_parts(file: &[u8]) -> Result<Parts, Fault>
         mapped: second.mapped,
         zero: front.zero,
     };
-    match file_records::read_received(&file[from..], head) {
-        Err(fault) => Err(Fault {
-            refusal: fault.refusal,
-            byte: from + fault.byte,
-        }),
-        Ok(sent) => {
-            let values = sent.values;
-            let values2 = sent.values2;
-            let verdicts = sent.verdicts;
-            Ok(Parts {
-                setup: s,
-                record: x,
-                mapped: second.mapped,
-                zero: front.zero,
-                values,
-                values2,
-                verdicts,
-            })
-        }
+    let sent = file_records::read_received(&file[from..], head);
+    if let Err(refusal) = sent.refused {
+        return Err(Fault {
+            refusal,
+            byte: from + sent.byte,
+        });
     }
+    let values = sent.values;
+    let values2 = sent.values2;
+    let verdicts = sent.verdicts;
+    Ok(Parts {
+        setup: s,
+        record: x,
+        mapped: second.mapped,
+        zero: front.zero,
+        values,
+        values2,
+        verdicts,
+    })
 }
 
 // The own judgement where there is no DF.

@@ -6,7 +6,7 @@ use mathlib.Core.List.{List, ◌++◌}
 use mathlib.Core.Path.{◌≡◌, refl, sym, ap, ◌∙◌}
 use native.Mathlib.Omega.{arith}
 use lib.ListN.{length, take, drop, length-append, length-drop, replicate, length-replicate}
-use lib.Seq.{take_all, take_at}
+use lib.Seq.{take_all, take_at, length-take-le, get_or-take}
 use lib.Dec.{ltb, leb, eqb}
 use borrow.Author.Tests.{le-leb, lt-leb, le-ltb, eq-eqb, ne_eqb, leb-true, leb-false, ltb-false, eqb-true, eqb-false, not-true, not-false}
 use Rattle.std.proofs.Common.{Result, Ok, Err}
@@ -17,11 +17,11 @@ use Rattle.base.proofs.Refusals.{above_zero}
 use Rattle.base.specs.Rules.{or_when}
 use Rattle.base.specs.Choice.{pick}
 use Rattle.base.specs.Search.{First, found, missing, Vec, first}
-use Rattle.base.specs.Fill.{tab}
+use Rattle.base.specs.Fill.{filled, tab}
 use Rattle.base.proofs.Choice.{picked}
 use Rattle.base.proofs.Rules.{clear, never}
 use Rattle.base.proofs.Search.{first-is, first-le}
-use Rattle.base.proofs.Fill.{tab-ext, tab-vec}
+use Rattle.base.proofs.Fill.{length-filled, get_d-filled, tab-is, tab-ext, tab-vec}
 use Rattle.record_words.specs.Words.{word_at, words_at}
 use Rattle.record_words.proofs.Words.{length-words, word-behind}
 use Rattle.record_layouts.specs.Records.{mark_pv, mark_vd, mark_su, mark_dl, mark_df, mark_pf, mark_dz, pair_size, verdict_size, pair_at, verdict_at}
@@ -268,6 +268,12 @@ refused-some (Ok x) e z = absurd (false≢true e)
 refused-some (Err k) e z = above_zero k z
 
 -- WHAT THE HOLDERS SENT
+-- the beginning of an array that is filled from the front
+pub begins : (n : ℕ) (f : ℕ → ℕ) (l : List ℕ) → n ≤ length l → take n (filled f n l) ≡ tab n f
+begins n f l h =
+    tab-is n f 0 (take n (filled f n l)) (length-take-le n _ (omega (arith, length-filled f n l)))
+    (λ k m. get_or-take n _ k 0 m ∙ get_d-filled f n l k 0 m (omega arith))
+
 pub sent-are : (h : Head) (first : ℕ) (t : List ℕ) → first + h.n ≤ pair_records h → tab h.n (λ j. word_at t (5 * first + 4 + 5 * j)) ≡ sent_at h first t
 sent-are h first t inside =
     tab-ext h.n (λ j. word_at t (5 * first + 4 + 5 * j)) (λ j. (pair_at (drop (place h (first + j)) t)).value)
@@ -296,11 +302,20 @@ module _ (h : Head) (t : List ℕ) (all : (k : ℕ) → k < records h → fault_
   verdicts-small =
       tab-vec 2 h.n _ (λ j l. (verdict-stands h (pair_records h + j) t (omega arith) (omega arith) (all (pair_records h + j) (omega arith))).small)
 
+-- words that a call has left at the front of an array
+pub front : (s : List ℕ) (i len : ℕ) (z e : List ℕ) → len ≤ length z → e ≡ words_at s i (length (take len z))
+    → (length (e ++ drop len z) ≡ length z) × (take len (e ++ drop len z) ≡ words_at s i len)
+front s i len z e l q =
+    let w = q ∙ ap (words_at s i) (length-take-le len z l) in
+    let n : length e ≡ len = ap length w ∙ length-words s i len in
+    (omega (arith, length-append e (drop len z), length-drop len z, n), take_at e (drop len z) len n ∙ w)
+
 -- words that stand at the front of an array of zeros
-pub front : (s : List ℕ) (i len size : ℕ) (r : List ℕ) → len ≤ size → r ≡ words_at s i len ++ drop len (replicate size 0)
+pub front-zeros : (s : List ℕ) (i len size : ℕ) (r : List ℕ) → len ≤ size → r ≡ words_at s i len ++ drop len (replicate size 0)
     → (length r ≡ size) × (take len r ≡ words_at s i len)
-front s i len size r l q =
-    let w : List ℕ = words_at s i len in
+front-zeros s i len size r l q =
     let z : List ℕ = replicate size 0 in
-    let n : length w ≡ len = length-words s i len in
-    (omega (arith, ap length q, length-append w (drop len z), length-drop len z, length-replicate {A = ℕ} size 0, n), rw q (take_at w (drop len z) len n))
+    let k = length-replicate {A = ℕ} size 0 in
+    let h : len ≤ length z = omega (arith, k, l) in
+    let f = front s i len z (words_at s i len) h (ap (words_at s i) (sym (length-take-le len z h))) in
+    (ap length q ∙ f.0 ∙ k, ap (take len) q ∙ f.1)

@@ -1,35 +1,27 @@
 -- Contracts of inner functions.
--- IsFault, IsSent, Sends: what is given of the PV, PF and VD: the first fault, or what the holders sent
+-- Sends: what is given of the PV, PF and VD: the first fault, if there is one, the byte reached, and what the holders sent
 -- Small: a setup whose lists have room
 -- HoldsPart: what is given of the lists of a DL, DZ or DF whose h has k entries
-use Rattle.std.specs.Prelude.{◌≡◌, true, List, ◌++◌, ℕ, ◌*◌, ◌≤◌, Result, Ok, Err, length, take, drop, replicate}
-use Rattle.base.specs.Refusals.{number}
+use Rattle.std.specs.Prelude.{◌≡◌, true, List, ◌++◌, ℕ, ◌*◌, ◌≤◌, length, take, drop, replicate}
+use Rattle.base.specs.Refusals.{refused_by}
 use Rattle.scheme.specs.Setup.{Setup, dim}
 use Rattle.record_words.specs.Words.{words_at}
 use Rattle.record_layouts.specs.Records.{parts_h}
 use Rattle.file_records.specs.declared.Head.{Head}
-use Rattle.file_records.specs.declared.Fault.{Fault}
 use Rattle.file_records.specs.declared.Sent.{Sent}
 use Rattle.file_records.specs.declared.PartLists.{PartLists}
 use Rattle.file_records.specs.Received.{place, fault_at, reached, sent_at, verdicts_at}
 
--- t is the file from the byte on where the records start
-pub record IsFault (h : Head) (t : List ℕ) (f : Fault) : Type 0 where
-  pub is : number f.refusal ≡ fault_at h t (reached h t)
-  pub byte : f.byte ≡ place h (reached h t)
-
-pub record IsSent (h : Head) (t : List ℕ) (r : Sent) : Type 0 where
-  pub faultless : fault_at h t (reached h t) ≡ 0
+-- t is the file from the byte on where the records start; refused or not, all of it
+pub record Sends (h : Head) (t : List ℕ) (r : Sent) : Type 0 where
+  pub number : refused_by r.refused ≡ fault_at h t (reached h t)
+  pub byte : r.byte ≡ place h (reached h t)
   pub values-size : length r.values ≡ 32
   pub values2-size : length r.values2 ≡ 32
   pub verdicts-size : length r.verdicts ≡ 32
   pub values : take h.n r.values ≡ sent_at h 0 t
   pub values2 : h.mapped ≡ true → take h.n r.values2 ≡ sent_at h h.n t
   pub verdicts : take h.n r.verdicts ≡ verdicts_at h t
-
-abbrev pub Sends : Head → List ℕ → Result Sent Fault → Type 0
-Sends h t (Ok r) = IsSent h t r
-Sends h t (Err f) = IsFault h t f
 
 pub record Small (S : Setup) : Type 0 where
   pub secret : S.l ≤ 8

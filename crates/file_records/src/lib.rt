@@ -26,9 +26,12 @@ pub struct Head {
     pub zero: bool,
 }
 
-// What the n holders sent, by sender: by PV, by PF and by VD.
+// Whether a record is refused, and the byte where the faulty record starts or a missing one would, else where the last one ends; and what the n holders sent, by sender:
+// by PV, by PF and by VD. Refused or not, these are the words at the places of the records; a byte past the file's end counts as 0.
 #[derive(Clone, Copy)]
 pub struct Sent {
+    pub refused: Result<(), Refusal>,
+    pub byte: usize,
     pub values: [u16; 32],
     pub values2: [u16; 32],
     pub verdicts: [u16; 32],
@@ -180,23 +183,25 @@ fn words_apart(t: &[u8], i: usize, step: usize, n: usize) -> [u16; 32]
 }
 
 // The PV, PF and VD of t, the file from the byte on where they start.
-pub fn read_received(t: &[u8], h: Head) -> Result<Sent, Fault>
+pub fn read_received(t: &[u8], h: Head) -> Sent
     requires { h.n ≤ 32 }
     ensures { Sends h t.now result }
 {
     let k = reached(t, h);
+    let refused = check_at(t, h, k);
     let byte = place(h, k);
-    check_at(t, h, k).map_err(|refusal| Fault { refusal, byte })?;
     let n = usize::from(h.n);
     let pairs = usize::from(pair_records(h));
     let values = words_apart(t, 4, 5, n);
     let values2 = words_apart(t, 5 * n + 4, 5, n);
     let verdicts = words_apart(t, 5 * pairs + 3, 4, n);
-    Ok(Sent {
+    Sent {
+        refused,
+        byte,
         values,
         values2,
         verdicts,
-    })
+    }
 }
 
 // THE LISTS, each at the start of its array, and zeros behind it.

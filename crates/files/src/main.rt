@@ -25,13 +25,13 @@ fn next<R: Read>(source: &mut R, buffer: &mut [u8]) -> Option<usize>
     Some(len)
 }
 
-fn main(rt: HostRuntime) -> io::Result<()> {
+// A file whose text cannot be written is passed over.
+fn main(rt: HostRuntime) {
     let mut file = [0u8; 4096];
     for _ in 0..10_000 {
         let Some(len) = next(&mut rt.stdin(), &mut file) else {
             break;
         };
-        print(&rt, &file[..len])?;
+        let _ = print(&rt, &file[..len]);
     }
-    Ok(())
 }

@@ -24,7 +24,7 @@ use Rattle.base.specs.Refusals.{number}
 use Rattle.file_records.specs.declared.Fault.{Fault}
 use Rattle.file_reading.specs.declared.Told.{Told}
 use Rattle.file_reading.specs.Contents.{Contents, is_mapped, shares_of, judgement, fate}
-use Rattle.file_reading.specs.File.{FileRead, refused_at, whole, read_file, byte_of, told, eight}
+use Rattle.file_reading.specs.File.{FileRead, refused_at, whole, read_file, number_of, byte_of, told, eight}
 use Rattle.file_reading.specs.Inner.{Refuses, TellsWhole}
 use Rattle.file_reading.proofs.Whole.{file-inside, whole-is-setup, whole_row, whole-mapped}
 use Rattle.holder_file.specs.Text.{text_of, line_of}
@@ -84,6 +84,10 @@ pub lent-means : (s out : List ℕ) (n : ℕ) → refusal (lent_file s out n) �
 lent-means s out n z = let q = clear (lent_file s out n) tt z in (ltb-false 4096 (length s) q.0, size_is (length out) n q.1.0)
 
 -- A REFUSED FILE
+refused-is : (x : FileRead) (k byte : ℕ) → k ≡ number_of x → byte ≡ byte_of x → (k ≡ 0 → ⊥) → x ≡ refused_at k byte
+refused-is (refused_at j b) k byte e f n = rw (e, f) refl
+refused-is (whole C) k byte e f n = absurd (n e)
+
 refused-answer : (values : Contents → List ℕ) (x : FileRead) (k byte : ℕ) → x ≡ refused_at k byte → at_byte k byte ≡ file_answer values x
 refused-answer values x k byte e = rw e refl
 

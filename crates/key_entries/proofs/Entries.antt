@@ -5,6 +5,8 @@ use mathlib.Core.Bool.{Bool, true, false, ◌&&◌}
 use mathlib.Core.List.{List, [], ◌∷◌}
 use native.Mathlib.Omega.{arith}
 use borrow.Author.Tests.{lt-ltb, le-ltb}
+use mir.Syntax.{w8, w16}
+use mir.Val.{Fits}
 use lib.ListN.{length, take, drop}
 use Rattle.std.proofs.lemmas.List.{get_or-take, get_or-drop, length-take-le, length-drop}
 use lib.Dec.{ltb}
@@ -22,6 +24,10 @@ pub seven : {A : Type 0} (f : ℕ → A) {s t u v w x y : A} → s ≡ f 0 → t
     → s ∷ t ∷ u ∷ v ∷ w ∷ x ∷ y ∷ [] ≡ tab 7 f
 unfolding tab tab_from
 seven f a b c d e g h = rw (a, b, c, d, e, g, h) refl
+
+-- a byte is a number of 16 bits
+pub wide : (x : ℕ) → Fits w8 x → Fits w16 x
+wide x h = omega (arith, h)
 
 module _ (key random : List ℕ) where
   -- byte 4b + k of the key

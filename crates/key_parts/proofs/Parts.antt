@@ -45,25 +45,43 @@ module _ (columns : List (List ℕ)) (x : List ℕ) where
       ∙ dot-same 7 (λ k. 1 * at (get_or columns k []) i + 16 * at (get_or columns k []) (16 + i)) _ (at x) (at x) (λ k m. omega arith) (λ k m. refl)
       )))
 
--- products with the columns and with the rows of F are every g and every h
+-- products with a column and with a row of F are entries of g and of h
 with-vector : (u f : ℕ → ℕ) (x : List ℕ) → x ≡ tab 7 f → dot 7 u (at x) ≡ dot 7 u f
 with-vector u f x e = dot-ext 7 u (at x) f (λ k l. rw e (get_d-tab 7 f 0 k l))
 
+module _ (columns : List (List ℕ)) (key random x : List ℕ) where
+  pub products-g : (b : ℕ) (entries : List ℕ) → x ≡ tab 7 (λ k. key_entry key random k b)
+      → entries ≡ tab 16 (λ i. dot 7 (matrix_entry columns i) (at x) % 257) → entries ≡ tab 16 (λ i. entry_g (matrix_entry columns) key random i b)
+  unfolding entry_g
+  products-g b entries e h =
+      h ∙ tab-ext 16 _ _ (λ i l. ap (λ z. z % 257) (with-vector (matrix_entry columns i) (λ k. key_entry key random k b) x e))
+
+  pub products-h : (k : ℕ) (entries : List ℕ) → x ≡ tab 7 (key_entry key random k)
+      → entries ≡ tab 16 (λ i. dot 7 (matrix_entry columns i) (at x) % 257) → entries ≡ tab 16 (λ i. entry_h (matrix_entry columns) key random i k)
+  unfolding entry_h
+  products-h k entries e h =
+      h
+      ∙ tab-ext 16 _ _
+      (λ i l.
+      ap (λ z. z % 257)
+      (with-vector (matrix_entry columns i) (key_entry key random k) x e ∙ dot-comm 7 (matrix_entry columns i) (key_entry key random k)))
+
+-- so with all the columns and all the rows: every g and every h
 module _ (columns : List (List ℕ)) (key random : List ℕ) (lines : List (List ℕ)) where
-  pub products-g : lines ≡ tab 7 (λ b. tab 7 (λ k. key_entry key random k b))
+  pub all_products-g : lines ≡ tab 7 (λ b. tab 7 (λ k. key_entry key random k b))
       → tab 112 (flat 7 (λ i c. dot 7 (matrix_entry columns i) (at (get_or lines c [])) % 257)) ≡ parts_g (matrix_entry columns) key random
   unfolding parts_g entry_g
-  products-g e =
+  all_products-g e =
       tab-ext 112 _ _
       (λ t l.
       let b = t % 7 in
       ap (λ z. z % 257)
       (with-vector (matrix_entry columns (t / 7)) (λ k. key_entry key random k b) _ (rw e (get_d-tab 7 (λ b. tab 7 (λ k. key_entry key random k b)) [] b (place_at 7 16 t l).2))))
 
-  pub products-h : lines ≡ tab 7 (λ k. tab 7 (key_entry key random k))
+  pub all_products-h : lines ≡ tab 7 (λ k. tab 7 (key_entry key random k))
       → tab 112 (flat 7 (λ i c. dot 7 (matrix_entry columns i) (at (get_or lines c [])) % 257)) ≡ parts_h (matrix_entry columns) key random
   unfolding parts_h entry_h
-  products-h e =
+  all_products-h e =
       tab-ext 112 _ _
       (λ t l.
       let k = t % 7 in

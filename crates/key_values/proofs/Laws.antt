@@ -1,6 +1,7 @@
 -- What the sums and the tests need: bounds of sums of products, one product more, and what an answer says of its tests.
 -- below-dot, sums-below: a sum of at most 16 products of field elements, and so in all lanes
 -- dot-next, sums_none, sums_next: one product more, and so in all lanes
+-- fewer: fewer of the members
 -- agreed-no, agreed-yes: what the answer of one column says
 -- columns-below: columns that are reduced
 use mathlib.Core.Path.{◌≡◌, refl, sym, ap, ◌∙◌}
@@ -18,6 +19,7 @@ use Rattle.base.proofs.Matrix.{below-tab}
 use Rattle.field.specs.Dot.{at, dot}
 use Rattle.field.proofs.Dot.{dot-step, dot-le}
 use Rattle.lanes.proofs.Laws.{product_le}
+use Rattle.key_weights.specs.Inner.{Depots}
 use Rattle.key_weights.proofs.Lanes.{lanes-below}
 use Rattle.key_values.specs.Inner.{Columns, Agreed, all, differs}
 
@@ -42,6 +44,13 @@ sums-below n u f s l hu hf e =
 
 pub dot-next : (i : ℕ) (u v : ℕ → ℕ) (s y : ℕ) → s ≡ dot i u v → y ≡ v i → s + u i * y ≡ dot (i + 1) u v
 dot-next i u v s y e h = rw (e, h) (sym (dot-step i u v))
+
+pub fewer : {k j : ℕ} {ms : List ℕ} → Depots k ms → j ≤ k → Depots j ms
+fewer D l = record {
+  fits = omega (arith, D.fits);
+  below = λ a m. D.below a (omega arith);
+  rise = λ a b m n. D.rise a b m (omega arith);
+}
 
 -- ANSWERS OF TESTS
 pub agreed-no : (k : ℕ) (t : ℕ → Bool) (r : Bool) → Agreed k t r → not r ≡ true → (x : ℕ) × (7 ≤ x) × (x < k) × (t x ≡ false)

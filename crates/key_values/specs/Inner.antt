@@ -10,8 +10,9 @@
 -- depots: the members of the set s
 -- Ready: at least seven of the sixteen depots, and four columns of their shares
 -- curve: the value at z of the polynomial through column b's first seven shares
--- Interpolates, Interpolated: the positions are the polynomials' values at 0 to 3; consistent says whether the further shares are their values at the depots' points
-use Rattle.std.specs.Prelude.{◌≡◌, Bool, true, false, List, [], ℕ, ◌+◌, ◌-◌, ◌*◌, ◌/◌, ◌%◌, ◌<◌, ◌≤◌, eqb, Option, Some, None, length, get_or}
+-- Interpolates: the positions are the polynomials' values at 0 to 3; consistent says whether the further shares are their values at the depots' points
+-- Interpolated: so of the values in a Result, which is Ok where they are and Err where some share is not
+use Rattle.std.specs.Prelude.{◌≡◌, Bool, true, false, List, [], ℕ, ◌+◌, ◌-◌, ◌*◌, ◌/◌, ◌%◌, ◌<◌, ◌≤◌, eqb, Result, Ok, Err, length, get_or}
 use Rattle.base.specs.Fill.{tab}
 use Rattle.base.specs.Matrix.{entry, flat, Below}
 use Rattle.field.specs.Dot.{at, dot}
@@ -69,7 +70,7 @@ pub record Interpolates (ms xs : List ℕ) (consistent : Bool) (values : List �
   pub positions : values ≡ tab 16 (flat 4 (λ b q. curve ms xs b q % 257))
   pub further : AllAgreed (length ms) (λ b x. eqb (curve ms xs b (7 + at ms x) % 257) (entry (length ms) xs b x)) consistent
 
--- the positions where every share lies on its column's polynomial, and nothing where one does not
-abbrev pub Interpolated : (ms xs : List ℕ) → Option (List ℕ) → Type 0
-Interpolated ms xs (Some values) = Interpolates ms xs true values
-Interpolated ms xs None = AllAgreed (length ms) (λ b x. eqb (curve ms xs b (7 + at ms x) % 257) (entry (length ms) xs b x)) false
+-- the positions in both cases: Ok where every share lies on its column's polynomial, Err where one does not
+abbrev pub Interpolated : (ms xs : List ℕ) → Result (List ℕ) (List ℕ) → Type 0
+Interpolated ms xs (Ok values) = Interpolates ms xs true values
+Interpolated ms xs (Err values) = Interpolates ms xs false values

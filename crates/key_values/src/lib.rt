@@ -119,13 +119,14 @@ fn all_agree(
 }
 
 // THE FOUR COLUMNS
-// The sixteen positions, where every share lies on its column's polynomial: from the tables and the members, of whom there are at least seven.
+// The sixteen positions, `Ok` where every share lies on its column's polynomial and `Err` where one does not: from the tables and the members, of whom there are
+// at least seven.
 fn interpolate_by(
     inverses: &[u16; 31],
     positions: &[u16; 64],
     members: &[u16],
     shares: &[u16],
-) -> Option<[u16; 16]>
+) -> Result<[u16; 16], [u16; 16]>
     requires tables { Tables inverses.now positions.now }
     requires ready { Ready members.now shares.now }
     ensures { Interpolated members.now shares.now result }
@@ -135,14 +136,14 @@ fn interpolate_by(
     let scaled = key_weights::scale(shares, k, members, w.inverses);
     let values = read(&scaled, positions, w.products);
     if all_agree(inverses, w.inverses, &scaled, shares, members, k) {
-        Some(values)
+        Ok(values)
     } else {
-        None
+        Err(values)
     }
 }
 
 // What the shares of a set give, of at least seven of the sixteen depots.
-pub fn interpolate(set: u32, shares: &[u16]) -> Option<[u16; 16]>
+pub fn interpolate(set: u32, shares: &[u16]) -> Result<[u16; 16], [u16; 16]>
     requires set_bound { set < 2 ^ 16 }
     requires in_bounds { (7 ≤ length (depots set)) × (length shares.now ≡ 4 * length (depots set)) }
     requires below { Below 257 shares.now }

@@ -11,7 +11,7 @@ ghost use Rattle.base.specs.Matrix.{flat};
 ghost use Rattle.scheme.specs.Setup.{setup_of};
 ghost use Rattle.scheme.specs.Answers.{paper_written};
 ghost use Rattle.scheme.specs.Dealing.{mapped_entry};
-ghost use Rattle.scheme.specs.Calls.{sizes, table, room, buffers, mapped_lent, deal_mapped_call, deal_mapped_left, deal_mapped_all_call, deal_mapped_all_left};
+ghost use Rattle.scheme.specs.Calls.{sizes, beyond_field, table, room, buffers, mapped_lent, deal_mapped_call, deal_mapped_left, deal_mapped_all_call, deal_mapped_all_left};
 ghost use Rattle.parts.specs.Inner.{line_entry};
 ghost use Rattle.dealing.specs.Inner.{sized};
 ghost use Rattle.mapped_dealing.specs.Inner.{RowRoom, MappedRoom};
@@ -68,6 +68,23 @@ fn check_buffers(needed: usize, g: usize, h: usize, g2: usize, h2: usize) -> Res
     scheme::check_size(h2, needed)
 }
 
+// Refusal 4: of the matrix and the map, which are public, and of the secret lists together, so that one branch depends on them.
+fn check_elements(
+    p: u16,
+    matrix: &[u16],
+    secrets: &[u16],
+    random: &[u16],
+    phi: &[u16],
+    random2: &[u16],
+) -> Result<(), Refusal>
+    ensures { refused_by result ≡ refusal (beyond_field p matrix.now ∷ beyond_field p secrets.now ∷ beyond_field p random.now ∷ beyond_field p phi.now ∷ beyond_field p random2.now ∷ []) }
+{
+    scheme::check_elements(p, matrix)?;
+    scheme::check_elements(p, phi)?;
+    let bound = dealing::secret_bound(secrets, random).max(base::bound(random2));
+    base::refuse_if(u32::from(p) < bound, Refusal::Element)
+}
+
 // Refusals 1 to 4 of the calls that deal with a map, with the lengths of the four buffers: the calls differ in the length needed.
 fn check_mapped(
     s: Params,
@@ -89,9 +106,7 @@ fn check_mapped(
     scheme::check_size(phi.len(), l * l)?;
     scheme::check_size(random2.len(), (s.e as usize) * s.dim())?;
     check_buffers(needed, g, h, g2, h2)?;
-    dealing::check_input_elements(s, matrix, secrets, random)?;
-    scheme::check_elements(s.p, phi)?;
-    scheme::check_elements(s.p, random2)
+    check_elements(s.p, matrix, secrets, random, phi, random2)
 }
 
 // A holder's part of a dealing, and its part of the second dealing, whose array is the map of the first.

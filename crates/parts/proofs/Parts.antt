@@ -5,17 +5,19 @@ use mathlib.Core.Bool.{true}
 use mathlib.Core.List.{List}
 use native.Mathlib.Nat.{mul-le-mul, mul-le-mul_right, div-add-mod'}
 use native.Mathlib.Omega.{arith}
-use lib.ListN.{length, get_or}
+use lib.ListN.{length, get_or, set, length-set}
+use lib.Seq.{get_or-set_same, get_or-set_other}
 use Rattle.base.specs.Fill.{tab, laid, filled}
 use Rattle.base.specs.Matrix.{flat, Below}
+use Rattle.base.proofs.Choice.{either}
 use Rattle.base.proofs.Fill.{get_d-tab, tab-ext, laid_none, laid-parts, flat-at, laid_filled}
-use Rattle.base.proofs.Matrix.{row_fits, entry-fits, below-tab, place_at}
+use Rattle.base.proofs.Matrix.{row_fits, entry-fits, below_set, below-tab, place_at}
 use Rattle.field.specs.Fields.{is_field}
 use Rattle.field.specs.Dot.{at, dot, along}
 use Rattle.field.proofs.Fields.{five-elim, field-five}
 use Rattle.field.proofs.Dot.{dot-step, dot-same, dot-comm, dot-le}
 use Rattle.lanes.proofs.Laws.{product_le}
-use Rattle.parts.specs.Inner.{line_entry, entry_g, PartRoom, AllRoom, past, lane, lane_entry, Held, EightRoom}
+use Rattle.parts.specs.Inner.{line_entry, entry_g, PartRoom, AllRoom, past, lane, lane_entry, Column, Held, EightRoom}
 
 -- ROOM
 -- F lies in the array
@@ -84,6 +86,30 @@ lane-of-g p d m F i b t =
     ap (λ z. z % p)
     (dot-comm d (lane F b d t) (along m (i * d) 1)
     ∙ dot-same d _ _ _ _ (λ k l. ap (λ n. get_or m n 0) (omega arith)) (λ k l. ap (λ n. get_or F n 0) (omega arith)))
+
+-- eight lanes from an entry on lie in the array
+pub lanes_fit : (d b k : ℕ) → d ≤ 16 → b < d → b % 8 ≡ 0 → k < d → b + k * d + 8 ≤ 256
+lanes_fit d b k h l z m = omega (arith, mul-le-mul {n₁ = k} {m₁ = d} {n₂ = 15} {m₂ = 16} (omega arith) h)
+
+-- COLUMNS
+module _ (c : ℕ) (u : ℕ → ℕ) (a : ℕ) (x : List ℕ) where
+  pub column-none : Column 0 c u a x x
+  column-none = record { size = refl; written = λ t l. absurd (omega arith); kept = λ k l. refl; small = λ h. h }
+
+  pub column-lane : (r : ℕ) (l : List ℕ) → a + r < length x → u r < 257 → Column r c u a x l → Column (r + 1) c u a x (set l (a + r) (u r))
+  column-lane r l f s w =
+      record {
+        size = length-set l (a + r) _ ∙ w.size;
+        written = λ t h m.
+            either t r (at (set l (a + r) (u r)) (a + t) ≡ u t)
+            (λ q. rw q (get_or-set_same l (a + r) _ 0 (omega (arith, w.size))))
+            (λ q. get_or-set_other l (a + r) (a + t) _ 0 (λ z. q (omega arith)) ∙ w.written t (omega (arith, q)) m);
+        kept = λ k h. get_or-set_other l (a + r) k _ 0 (λ z. absurd (omega arith)) ∙ w.kept k h;
+        small = λ h. below_set 257 l (a + r) (u r) s (w.small h);
+      }
+
+  pub column-left : (r : ℕ) (l : List ℕ) → c ≤ r → Column r c u a x l → Column (r + 1) c u a x l
+  column-left r l h w = record { size = w.size; written = λ t q m. w.written t (omega arith) m; kept = w.kept; small = w.small }
 
 -- EIGHT HOLDERS
 -- room for the parts of c holders from holder i on

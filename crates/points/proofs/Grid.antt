@@ -1,8 +1,8 @@
--- The laws of the points matrix as it is worked out.
-use Prim.Native.Nat.{ℕ, zero, suc, ◌+◌, ◌*◌, ◌/◌, ◌%◌, ◌≤◌, ◌<◌}
+-- The laws of the points matrix as it is worked out, and of the table of its call without the last rule.
+use Prim.Native.Nat.{ℕ, ◌+◌, ◌*◌, ◌/◌, ◌%◌, ◌≤◌, ◌<◌}
 use mathlib.Core.Path.{◌≡◌, refl, ◌∙◌}
-use mathlib.Core.Bool.{Bool, true}
-use mathlib.Core.List.{List, [], ◌∷◌}
+use mathlib.Core.Bool.{true}
+use mathlib.Core.List.{List, []}
 use mathlib.Core.Logic.{◌≢◌, ⊎_elim}
 use native.Mathlib.Numerals.{add-one}
 use native.Mathlib.Omega.{arith}
@@ -18,9 +18,8 @@ use Rattle.field.proofs.Congruence.{mul-mod-mod, mod-mul-mod}
 use Rattle.field.specs.Fields.{is_field}
 use Rattle.field.proofs.Fields.{field-five}
 use Rattle.polynomial.specs.Polynomial.{minus, basis, lagrange, point}
-use Rattle.scheme.specs.Setup.{Setup, dim, Limits}
-use Rattle.scheme.specs.Calls.{room, setup_rules, points_rules}
-use Rattle.scheme.proofs.Calls.{in_order}
+use Rattle.scheme.specs.Setup.{Setup, dim}
+use Rattle.scheme.specs.Calls.{setup_rules, points_rules}
 use Rattle.points.specs.Inner.{zeros, weight_of, weights_of, points_row, row_entry, HasRows}
 
 -- a basis begins at 1 and takes one factor more, reduced
@@ -69,3 +68,8 @@ module _ (p d n : ℕ) (z : List (List ℕ)) (small : d ≤ 16) (room : n ≤ le
 pub largest : (p : ℕ) → is_field p ≡ true → p ≢ 2 → p ≢ 7 → p ≢ 251 → p ≢ 257 → p ≡ 65521
 largest p t i j k l =
     ⊎_elim (λ e. absurd (i e)) (⊎_elim (λ e. absurd (j e)) (⊎_elim (λ e. absurd (k e)) (⊎_elim (λ e. absurd (l e)) (λ e. e)))) (field-five p t)
+
+-- the rules up to 3, and then 15, are the whole table
+pub whole-table : (S : Setup) (early r d : ℕ) → early ≡ refusal (setup_rules S (length S.M)) → d ≡ dim S → r ≡ or_when early 15 (ltb S.p (d + S.n))
+    → r ≡ refusal (points_rules S)
+whole-table S early r d a b c = rw (c, a, b) refl

@@ -13,12 +13,13 @@ use Rattle.base.proofs.Rules.{positive, clear, clear-left, joined, stays, refusa
 use Rattle.scheme.specs.Setup.{Setup, dim, Limits, IsSetup}
 use Rattle.scheme.specs.Calls.{Lent, limits, size, beyond_field}
 use Rattle.scheme.proofs.Calls.{limits-are, limits-pos, size_is, size-clear, vec_of, InOrder, in_order}
+use Rattle.record_words.specs.Words.{words_at}
 use Rattle.record_words.proofs.Words.{length-words, below-words, every-none}
-use Rattle.record_layouts.specs.Records.{due, Layout, setup_size, setup_at, due_setup, read_setup_rules, read_matrix_rules, standing_rules, read_rules}
-use Rattle.record_layouts.specs.Records.{dealing_at, dealing_g, parts_h, dealing_faults, parts_layout_of}
-use Rattle.record_layouts.specs.Records.{zero_size, zero_layout, zero_lent, read_zero_rules, mapped_size, mapped_layout, mapped_lent, read_mapped_rules}
-use Rattle.record_layouts.specs.Inner.{parts_rules}
-use Rattle.record_layouts.proofs.Layouts.{Lawful, zero_lawful, mapped-lawful}
+use Rattle.record_layouts.specs.Records.{due, Layout, setup_size, setup_at, due_setup, read_setup_rules, read_matrix_rules, lists_rules, standing_rules, read_rules}
+use Rattle.record_layouts.specs.Records.{dealing_size, dealing_at, dealing_g, parts_h, dealing_h, dealing_faults, parts_layout_of, dealing_layout, dealing_lent, read_dealing_rules}
+use Rattle.record_layouts.specs.Records.{zero_size, zero_layout, zero_lent, read_zero_rules, mark_df, mapped_size, mapped_layout, mapped_lent, read_mapped_rules}
+use Rattle.record_layouts.specs.Inner.{list_rules, parts_rules}
+use Rattle.record_layouts.proofs.Layouts.{Lawful, dealing-lawful, zero_lawful, mapped-lawful}
 
 -- a rule that does not hold leaves what stands
 pub passed_over : (r k : ℕ) (l : List Rule) → refusal_from r ((k when false) ∷ l) ≡ refusal_from r l
@@ -40,6 +41,10 @@ matrix-small S L = mul-le-mul {n₁ = S.n} {m₁ = dim S} {n₂ = 32} {m₂ = 16
 
 pub map-small : (S : Setup) → Limits S → S.l * S.l ≤ 64
 map-small S L = mul-le-mul {n₁ = S.l} {m₁ = S.l} {n₂ = 8} {m₂ = 8} L.secret.1 L.secret.1
+
+-- THE START OF A RECORD that its mark and its length do not refuse: it is there whole
+pub due-length : (mark needed : ℕ) (s : List ℕ) → refusal (due mark needed s) ≡ 0 → needed ≤ length s
+due-length mark needed s e = ltb-false (length s) needed (clear (due mark needed s) tt e).1.1.0
 
 -- SU
 -- an SU that is not refused is a setup, and it stands there whole
@@ -79,12 +84,31 @@ none-behind mark size many S s e =
     rw (add-zero (dim S + many S), e, b)
     (joined 0 before ((4 when false) ∷ after) ∙ passed_over (refusal before) 4 after ∙ sym (joined 0 before after))
 
+-- with ℓ * ℓ elements behind h they are those of DF
+module _ (S : Setup) (s : List ℕ) where
+  abbrev map_to : ℕ → ℕ → List Rule
+  map_to n i =
+      due mark_df n s ++ (beyond_field S.p (dealing_g S s) ∷ beyond_field S.p (dealing_h S s) ∷ beyond_field S.p (words_at s i (S.l * S.l)) ∷ [])
+
+  pub map-lists-behind : refusal (list_rules mark_df (dim S) (S.l * S.l) S s) ≡ refusal (lists_rules mapped_layout S s)
+  map-lists-behind =
+      ap (λ n. refusal (map_to n (3 + dim S + dim S))) (omega arith) ∙ ap (λ i. refusal (map_to (mapped_size S) i)) (omega arith)
+
+  pub map-parts-behind : refusal (parts_rules mark_df (dim S) (S.l * S.l) S s) ≡ refusal (standing_rules mapped_layout S s)
+  map-parts-behind =
+      let after = dealing_faults S (dealing_at s) in
+      ap (λ n. refusal (map_to n (3 + dim S + dim S) ++ after)) (omega arith) ∙ ap (λ i. refusal (map_to (mapped_size S) i ++ after)) (omega arith)
+
 -- a reader that is not refused: all that is lent is as needed, and the record stands there whole
 read-room : {A : Type 0} (L : Layout A) (W : Lawful A L) (S : Setup) (lent : List Lent) (s : List ℕ) → refusal (read_rules L S lent s) ≡ 0
     → InOrder S.p lent × (L.size S ≤ length s)
 read-room L W S lent s e =
     let r = in_order S lent (standing_rules L S s) (W.positive-read S (L.at S s)) e in
     (r.lent, ltb-false (length s) (L.size S) r.own.1.1.0)
+
+pub parts-room : (S : Setup) (s : List ℕ) (j k : ℕ) → refusal (read_dealing_rules S s j k) ≡ 0
+    → (j ≡ dim S) × (k ≡ dim S) × (dealing_size S ≤ length s)
+parts-room S s j k e = let r = read-room dealing_layout dealing-lawful S (dealing_lent S j k) s e in (r.0.0, r.0.1.0, r.1)
 
 pub zero_room : (S : Setup) (s : List ℕ) (j k : ℕ) → refusal (read_zero_rules S s j k) ≡ 0
     → (j ≡ dim S) × (k ≡ S.e) × (zero_size S ≤ length s)

@@ -1,13 +1,13 @@
 -- The laws of words and bytes: what is written as bytes reads back word by word, and the bytes follow from the words that they show.
 -- Shows: from word i on the bytes s show the words ws
 use mathlib.Core.Path.{◌≡◌, refl, sym, ap, ◌∙◌}
-use mathlib.Core.Bool.{Bool, true, false, not, not-not, ◌||◌}
+use mathlib.Core.Bool.{Bool, true, false, not, not-not, ◌&&◌, ◌||◌}
 use mathlib.Core.List.{List, [], ◌∷◌, ◌++◌, append-nil, append_assoc}
 use Prim.Native.Nat.{ℕ, zero, suc, ◌+◌, ◌*◌, ◌/◌, ◌%◌, ◌<◌, ◌≤◌}
 use native.Mathlib.Nat.{add-zero, le_of_suc-le-suc, not-suc-le-zero}
 use native.Mathlib.Numerals.{add-one}
 use native.Mathlib.Omega.{arith}
-use lib.Dec.{leb, ltb}
+use lib.Dec.{eqb, leb, ltb}
 use lib.ListN.{length, get_or, set, take, drop, length-append, get_or-append, drop_of_length-le}
 use lib.Seq.{sets, sets-eq, ext_get_or, get_or-append-add, get_or-drop, drop-cons}
 use Rattle.std.specs.List.{fold, range_with_len}
@@ -16,7 +16,7 @@ use Rattle.base.specs.Search.{every}
 use Rattle.base.specs.Matrix.{all_below}
 use Rattle.base.proofs.Matrix.{not-leb}
 use Rattle.base.proofs.Fill.{length-tab, get_d-tab}
-use Rattle.base.proofs.Search.{every-ext, fold-any}
+use Rattle.base.proofs.Search.{every-ext, every-step, fold-any}
 use Rattle.record_words.specs.Words.{bytes, word_at, words_at, Bytes}
 
 -- BYTES OF WORDS
@@ -91,9 +91,24 @@ words-fold p s i k =
     (λ j h. ap (λ n. not (leb p (word_at s n))) (get_or-range_with_len i k j 0 h) ∙ not-leb p (word_at s (i + j)))
     ∙ sym (below-words p s i k))
 
+-- one word more is tested: it passes, or it fails and the mark is made
+and-true : (b : Bool) → (b && true) ≡ b
+and-true true = refl
+and-true false = refl
+
+and-false : (b : Bool) → (b && false) ≡ false
+and-false true = refl
+and-false false = refl
+
 pub every-none : (t : ℕ → Bool) → every 0 t ≡ true
 unfolding every
 every-none t = refl
+
+pub passed : (t : ℕ → Bool) (k over : ℕ) → t k ≡ true → eqb over 0 ≡ every k t → eqb over 0 ≡ every (k + 1) t
+passed t k over e h = h ∙ sym (every-step k t ∙ ap (λ b. every k t && b) e ∙ and-true (every k t))
+
+pub failed : (t : ℕ → Bool) (k over : ℕ) → t k ≡ false → over ≡ 1 → eqb over 0 ≡ every (k + 1) t
+failed t k over e h = rw h (sym (every-step k t ∙ ap (λ b. every k t && b) e ∙ and-false (every k t)))
 
 -- THE BYTES FOLLOW FROM THE WORDS
 abbrev pub Shows : List ℕ → ℕ → List ℕ → Type 0

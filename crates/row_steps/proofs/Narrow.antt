@@ -27,8 +27,12 @@ rest-two x q p h l = sym (mod-eq_of_lt l) ∙ ap (λ (n : ℕ). n % p) e ∙ res
     e = omega arith
 
 -- a difference comes out of the low halves
-in_halves : (y a b p : ℕ) → a ≤ 65536 → b ≤ a → a ≤ b + p → y < p → p ≤ 257 → ((y + a % 65536) % 65536 + (65536 - b % 65536)) % 65536 ≡ y + a - b
+in_halves : (y a b p : ℕ) → a ≤ 65536 → b ≤ a → a ≤ b + p → y < p → p ≤ 257 → (y + a % 65536 + 65536 - b % 65536) % 65536 ≡ y + a - b
 in_halves y a b p h i j k l = omega arith
+
+-- a sum that has wrapped around already leaves the same
+wrapping : (u b : ℕ) → b < 65536 → (u % 65536 + (65536 - b)) % 65536 ≡ (u + 65536 - b) % 65536
+wrapping u b l = omega arith
 
 -- of what is left and what is left less p, in 16 bits, the smaller is the remainder
 smaller : (x q p v : ℕ) → v ≡ x - q * p → q * p ≤ x → v < p + p → p ≤ 257 → min v ((v + (65536 - p)) % 65536) ≡ x % p
@@ -39,7 +43,7 @@ smaller x q p v e h l m = go (dec_lt v p)
     go (no b) = let s : min v ((v + (65536 - p)) % 65536) ≡ x - q * p - p = omega arith in s ∙ rest-two x q p (omega arith) (omega arith)
 
 module _ {p h r : ℕ} (e : Reciprocal p h r) (x y : ℕ) (lx : x < p) (ly : y < p) where
-  product : x * h ≤ 65536
+  pub product : x * h ≤ 65536
   product = omega (arith, mul-le-mul lx256 lh256)
     where
       lx256 : x ≤ 256
@@ -48,10 +52,10 @@ module _ {p h r : ℕ} (e : Reciprocal p h r) (x y : ℕ) (lx : x < p) (ly : y <
       lh256 : h ≤ 256
       lh256 = omega (arith, e.small, e.less)
 
-  under : x * r / 65536 * p ≤ x * h
+  pub under : x * r / 65536 * p ≤ x * h
   under = rw e.is (omega (arith, mul-le-mul_right p (div-mul-le_self (x * (h * 65536 / p)) 65536), mul-le-mul_left x (div-mul-le_self (h * 65536) p)))
 
-  over : x * h ≤ x * r / 65536 * p + p
+  pub over : x * h ≤ x * r / 65536 * p + p
   over =
       rw e.is
       (omega (
@@ -62,10 +66,13 @@ module _ {p h r : ℕ} (e : Reciprocal p h r) (x y : ℕ) (lx : x < p) (ly : y <
       ))
 
   -- in 16 bits nothing is lost
-  same : ((y + x * h % 65536) % 65536 + (65536 - x * r / 65536 * p % 65536)) % 65536 ≡ y + x * h - x * r / 65536 * p
+  pub same : (y + x * h % 65536 + 65536 - x * r / 65536 * p % 65536) % 65536 ≡ y + x * h - x * r / 65536 * p
   same = in_halves y (x * h) (x * r / 65536 * p) p product under over ly e.small
+
+  same-wrapping : ((y + x * h % 65536) % 65536 + (65536 - x * r / 65536 * p % 65536)) % 65536 ≡ y + x * h - x * r / 65536 * p
+  same-wrapping = wrapping (y + x * h % 65536) (x * r / 65536 * p % 65536) (omega arith) ∙ same
 
   pub narrow : (v : ℕ) → v ≡ ((y + x * h % 65536) % 65536 + (65536 - x * r / 65536 * p % 65536)) % 65536 → min v ((v + (65536 - p)) % 65536) ≡ (y + h * x) % p
   narrow v s =
-      smaller (y + x * h) (x * r / 65536) p v (s ∙ same) (omega (arith, under)) (omega (arith, s, same, over)) e.small
+      smaller (y + x * h) (x * r / 65536) p v (s ∙ same-wrapping) (omega (arith, under)) (omega (arith, s, same-wrapping, over)) e.small
       ∙ ap (λ (n : ℕ). n % p) (omega arith)

@@ -65,27 +65,27 @@ put_mid-laid f t w a ys fits long h =
     laid-is f t w 0 a _ (search (rules, places, overwrites)) fits (λ c l. let e : get_or ys c 0 ≡ f c = h c l in search (rules, places)) (λ k o. search (rules, places))
 
 -- A ROW SCALED
-module _ (p k : ℕ) where
-  pub scale-none : (a : List ℕ) → a ≡ scale_row p k 0 0 a
+module _ (p k t : ℕ) where
+  pub scale-none : (a : List ℕ) → a ≡ scale_row p k t 0 a
   unfolding scale_row
-  scale-none a = laid_none _ 0 a
+  scale-none a = laid_none _ t a
 
-  pub below-scale : (t n : ℕ) (a : List ℕ) → 0 < p → Below p a → Below p (scale_row p k t n a)
+  pub below-scale : (n : ℕ) (a : List ℕ) → 0 < p → Below p a → Below p (scale_row p k t n a)
   unfolding scale_row
-  below-scale t n a hp all = below-laid p _ t n a (λ j. mod-lt _ hp) all
+  below-scale n a hp all = below-laid p _ t n a (λ j. mod-lt _ hp) all
 
-  pub scale-step : (n : ℕ) (a b : List ℕ) (v : ℕ) → b ≡ scale_row p k 0 n a → v ≡ add_entry p k 0 (get_or b n 0) → set b n v ≡ scale_row p k 0 (n + 1) a
+  pub scale-step : (n : ℕ) (a b : List ℕ) (v : ℕ) → b ≡ scale_row p k t n a → v ≡ add_entry p k 0 (get_or b (t + n) 0)
+      → set b (t + n) v ≡ scale_row p k t (n + 1) a
   unfolding scale_row
   scale-step n a b v e g =
-      ap (λ i. set b i v) (sym (zero-add n))
-      ∙ laid-store _ 0 n a b v e (g ∙ ap (λ (i : ℕ). i % p) (zero-add _)
-      ∙ ap (λ i. k * i % p) (ap (λ z. get_or z n 0) e ∙ laid_out _ 0 n a n 0 (inr (omega arith)) ∙ ap (λ i. get_or a i 0) (sym (zero-add n))))
+      laid-store _ t n a b v e (g ∙ ap (λ (i : ℕ). i % p) (zero-add _)
+      ∙ ap (λ i. k * i % p) (ap (λ z. get_or z (t + n) 0) e ∙ laid_out _ t n a (t + n) 0 (inr (omega arith))))
 
   -- a part of the buffer, scaled and put back
-  pub scaled_part : (t w : ℕ) (a row : List ℕ) → t + w ≤ length a → row ≡ scale_row p k 0 (length (take (t + w - t) (drop t a))) (take (t + w - t) (drop t a))
+  pub scaled_part : (w : ℕ) (a row : List ℕ) → t + w ≤ length a → row ≡ scale_row p k 0 (length (take (t + w - t) (drop t a))) (take (t + w - t) (drop t a))
       → put_mid t (t + w - t) a row ≡ scale_row p k t w a
   unfolding scale_row
-  scaled_part t w a row fits e = put_mid-laid _ t w a row fits (ap length e ∙ length-laid _ 0 _ _ ∙ long) inside
+  scaled_part w a row fits e = put_mid-laid _ t w a row fits (ap length e ∙ length-laid _ 0 _ _ ∙ long) inside
     where
       part : List ℕ
       part = take (t + w - t) (drop t a)
@@ -98,3 +98,8 @@ module _ (p k : ℕ) where
           ap₂ (λ z i. get_or z i 0) e (sym (zero-add j))
           ∙ laid_in _ 0 (length part) part j 0 (omega arith) (omega (arith, long))
           ∙ ap (λ i. k * i % p) (ap (λ i. get_or part i 0) (zero-add j) ∙ get_or-take (t + w - t) (drop t a) j 0 (omega arith) ∙ get_or-drop t a j 0)
+
+-- one store more, where the row is the whole list
+pub scale-next : (p k n : ℕ) (a b : List ℕ) (v : ℕ) → b ≡ scale_row p k 0 n a → v ≡ add_entry p k 0 (get_or b n 0) → set b n v ≡ scale_row p k 0 (n + 1) a
+scale-next p k n a b v e g =
+    ap (λ i. set b i v) (sym (zero-add n)) ∙ scale-step p k 0 n a b v e (g ∙ ap (λ i. add_entry p k 0 (get_or b i 0)) (sym (zero-add n)))

@@ -3,7 +3,7 @@
 -- decided: a question's answer on paper
 -- determines-is: the lowest position that is lacking says whether the set determines the secrets
 -- row_fits, row-found, row-none: what the system for a reconstruction row shows
--- shown-below, vector-none, vector-found: what the system for a sweeping vector shows
+-- shown-below, vector-fits, vector-none, vector-found: what the system for a sweeping vector shows
 -- private-is: that system at all positions says whether the set is private
 -- judge-taken: what an accepted judgement says of its inputs
 -- judged-row, judged-vector, judged-neither, buffer-judged: the answer of the call, and its buffer
@@ -116,6 +116,10 @@ shown-below p R W b s pos all j = go (pivot_row R (view W s).used j) (ltb (pivot
     go : (r : ℕ) (t : Bool) → pick t (entry W s.mat r b) 0 < p
     go r true = all (r * W + b)
     go r false = pos
+
+pub vector-fits : {S : Setup} {s : ℕ} (ok : SetTaken S s) {a u : List ℕ} → AsideReduced S s a u → {n d : ℕ} → n ≡ length (members 32 (holds s)) → d ≡ dim S
+    → Fits n d a u
+vector-fits ok R K D = rw (D, members-are ok K) (record { size = R.shows.size; marks = R.shows.marks; narrow = omega (arith, narrow ok) })
 
 -- p - x is (p - 1) x modulo p
 negative-is : (p x : ℕ) → 1 < p → x < p → (p - x) % p ≡ ((p - 1) * x) % p

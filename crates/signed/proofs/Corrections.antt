@@ -1,18 +1,28 @@
--- The laws of corrections and residues: what a correction is held as, and that the two ways undo each other.
+-- The laws of corrections and residues: what the two tests of a range say of a correction, what it is held as, and that the two ways undo each other.
 use mathlib.Core.Path.{◌≡◌, refl, sym, ap, ◌∙◌}
-use mathlib.Core.Bool.{Bool, true, false}
+use mathlib.Core.Bool.{Bool, true, false, false≢true}
 use Prim.Native.Nat.{ℕ, suc, ◌+◌, ◌-◌, ◌%◌, ◌≤◌, ◌<◌}
 use native.Mathlib.Nat.{mod-eq_of_lt}
 use native.Mathlib.Omega.{arith}
 use lib.Dec.{leb}
 use lib.IntN.{ℤ, pos, negsuc, ◌+ℤ◌, ◌-ℤ◌}
-use borrow.Author.Tests.{lt-ltb, le-ltb, leb-true, leb-false, lt-leb, le-leb}
+use lib.Signed.{lt_z, le_z}
+use borrow.Author.Tests.{ltb-true, ltb-false, lt-ltb, le-ltb, leb-true, leb-false, lt-leb, le-leb}
 use mir.Syntax.{w32}
 use mir.Val.{SFits, to_z, of_z}
 use mir.Facts.{to_z-of_z}
 use Rattle.field.proofs.Congruence.{cong-by}
 use Rattle.signed.specs.Integers.{remainder}
 use Rattle.signed.specs.Corrections.{in_range, residue, correction}
+
+-- THE RANGE
+pub too-low : (z : ℤ) → lt_z z (negsuc 32759) ≡ true → false ≡ in_range z
+too-low (pos n) e = absurd (false≢true e)
+too-low (negsuc n) e = let h = ltb-true 32759 n e in sym (lt-leb (suc n) 32760 (omega arith))
+
+pub low-enough : (z : ℤ) → lt_z z (negsuc 32759) ≡ false → le_z z (pos 32760) ≡ in_range z
+low-enough (pos n) e = refl
+low-enough (negsuc n) e = let h = ltb-false 32759 n e in sym (le-leb (suc n) 32760 (omega arith))
 
 -- HELD
 pub residue-pos : (n : ℕ) → n < 65521 → residue (pos n) ≡ n

@@ -381,12 +381,13 @@ fn next_round(rt: &impl Print) -> io::Result<()> {
     combine(rt, &[2, 1], &[4, 0], &[1, 0])
 }
 
-fn main(rt: HostRuntime) -> io::Result<()> {
-    dealings(&rt)?;
-    judgements(&rt)?;
-    openings(&rt)?;
-    sets(&rt)?;
-    zeros(&rt)?;
-    refreshes(&rt)?;
-    next_round(&rt)
+// What cannot be written is passed over.
+fn main(rt: HostRuntime) {
+    let _ = dealings(&rt);
+    let _ = judgements(&rt);
+    let _ = openings(&rt);
+    let _ = sets(&rt);
+    let _ = zeros(&rt);
+    let _ = refreshes(&rt);
+    let _ = next_round(&rt);
 }

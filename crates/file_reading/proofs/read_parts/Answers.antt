@@ -1,19 +1,19 @@
 -- What refuses SU, DL, DZ or DF decides; where they are in order, the record reached behind them.
 use mathlib.Core.Bool.{Bool}
-use mathlib.Core.Path.{◌≡◌, ap, subst, ◌∙◌}
+use mathlib.Core.Path.{◌≡◌, sym, ap, subst, ◌∙◌}
 use mathlib.Core.List.{List, []}
 use Prim.Native.Nat.{ℕ, ◌+◌, ◌-◌, ◌≤◌}
 use native.Mathlib.Omega.{arith}
 use lib.ListN.{length, take, drop, length-drop}
-use Rattle.base.specs.Refusals.{number}
+use Rattle.base.specs.Refusals.{number, refused_by}
+use Rattle.base.proofs.Refusals.{above_zero}
 use Rattle.scheme.specs.declared.Params.{Params}
 use Rattle.scheme.specs.Setup.{setup_of}
 use Rattle.record_layouts.specs.declared.DealingRecord.{DealingRecord}
 use Rattle.record_layouts.specs.Records.{setup_at, dealing_at}
 use Rattle.file_records.specs.declared.Head.{Head}
-use Rattle.file_records.specs.declared.Fault.{Fault}
 use Rattle.file_records.specs.declared.Sent.{Sent}
-use Rattle.file_records.specs.Inner.{IsFault, IsSent}
+use Rattle.file_records.specs.Inner.{Sends}
 use Rattle.file_records.proofs.Reading.{part-is, reached-inside}
 use Rattle.file_reading.specs.declared.Front.{Front}
 use Rattle.file_reading.specs.declared.SecondFront.{SecondFront}
@@ -45,11 +45,8 @@ module _ (s : List ℕ) (f : Front) (F : FrontIn s f) (m : SecondFront) (M : Map
   same-rest : take (length s - m.byte) (drop m.byte s) ≡ drop from s
   same-rest = part-is s m.byte ∙ ap (λ (k : ℕ). drop k s) M.byte
 
-  fault-here : (x : Fault) → IsFault read (take (length s - m.byte) (drop m.byte s)) x → IsFault head (drop from s) x
-  fault-here x W = subst (λ (h : Head). IsFault h (drop from s) x) same-head (subst (λ (t : List ℕ). IsFault read t x) same-rest W)
-
-  sent-here : (r : Sent) → IsSent read (take (length s - m.byte) (drop m.byte s)) r → IsSent head (drop from s) r
-  sent-here r W = subst (λ (h : Head). IsSent h (drop from s) r) same-head (subst (λ (t : List ℕ). IsSent read t r) same-rest W)
+  sent-here : (r : Sent) → Sends read (take (length s - m.byte) (drop m.byte s)) r → Sends head (drop from s) r
+  sent-here r W = subst (λ (h : Head). Sends h (drop from s) r) same-head (subst (λ (t : List ℕ). Sends read t r) same-rest W)
 
 pub slice_bounds-read_received-count : goal.slice_bounds-read_received-count
 slice_bounds-read_received-count c = fits c.args.file.now _ c.in_ok-front.ensures _ c.in_ok-second.ensures
@@ -57,8 +54,8 @@ slice_bounds-read_received-count c = fits c.args.file.now _ c.in_ok-front.ensure
 pub slice_bounds-read_received-start : goal.slice_bounds-read_received-start
 slice_bounds-read_received-start c = fits c.args.file.now _ c.in_ok-front.ensures _ c.in_ok-second.ensures
 
-pub read_received-requires : goal.read_received-requires
-read_received-requires c =
+pub read_received-sent-requires : goal.read_received-sent-requires
+read_received-sent-requires c =
     let s = c.args.file.now in
     let F : FrontIn s c.in_ok-front.front = c.in_ok-front.ensures in
     omega (arith, (setup-fair s F.fair).0.limits.holders.1, ap (λ (p : Params). p.n) F.setup)
@@ -67,7 +64,7 @@ pub overflow_add-result : goal.overflow_add-result
 overflow_add-result c =
     let s = c.args.file.now in
     let M : MapIn s c.in_ok-second.second = c.in_ok-second.ensures in
-    let W = fault-here s _ c.in_ok-front.ensures _ M _ c.in-Err.ensures in
+    let W = sent-here s _ c.in_ok-front.ensures _ M _ c.read_received-sent.ensures in
     let k = start (setup_at s) (zero_in s) (tied_in s) in
     let h = head_of (setup_at s) (dealing_at (part_of s)) (zero_in s) (tied_in s) in
     omega (arith, fits s _ c.in_ok-front.ensures _ M, M.byte, c.requires, W.byte, reached-inside h (drop k s), length-drop k s)
@@ -77,16 +74,21 @@ returns-in-Err c =
     let s = c.args.file.now in
     let F : FrontIn s c.in_ok-front.front = c.in_ok-front.ensures in
     let M : MapIn s c.in_ok-second.second = c.in_ok-second.ensures in
-    let x = c.in-Err.fault in
-    ap (λ (k : ℕ). refused_at (number x.refusal) (k + x.byte)) M.byte ∙ sent-refused s F.fair M.fair x (fault-here s _ F _ M x c.in-Err.ensures)
+    let r = c.read_received-sent.result in
+    let k = number c.in-Err.refusal in
+    let e : refused_by r.refused ≡ k = ap refused_by c.in-Err.is in
+    ap (λ (j : ℕ). refused_at k (j + r.byte)) M.byte
+    ∙ ap (λ (j : ℕ). refused_at j (start (setup_at s) (zero_in s) (tied_in s) + r.byte)) (sym e)
+    ∙ sent-refused s F.fair M.fair r (sent-here s _ F _ M r c.read_received-sent.ensures) (λ z. above_zero c.in-Err.refusal (sym e ∙ z))
 
-pub returns-in-Ok : goal.returns-in-Ok
-returns-in-Ok c =
+pub returns : goal.returns
+returns c =
     let s = c.args.file.now in
     let F : FrontIn s c.in_ok-front.front = c.in_ok-front.ensures in
     let M : MapIn s c.in_ok-second.second = c.in_ok-second.ensures in
-    let W = sent-here s _ F _ M c.in-Ok.sent c.in-Ok.ensures in
-    let w = sent-next s F.fair M.fair c.in-Ok.sent W in
+    let r = c.read_received-sent.result in
+    let W = sent-here s _ F _ M r c.read_received-sent.ensures in
+    let w = sent-next s F.fair M.fair r W (ap refused_by c.in_default.is) in
     record {
       fair = F.fair;
       second = M.fair;

@@ -85,8 +85,14 @@ returns-in-Err c =
     let some : c.has_mark.result ≡ true = search rules in
     let there : tied_in s ≡ true = tied-by s f F c.if-front.false ∙ sym c.has_mark.ensures ∙ some in
     let k = number c.in-Err.refusal in
-    ap (refused_at k) F.byte
-    ∙ file-mapped-refused s F.fair.setup (setup_at s) refl F.fair.dealing refl refl refl refl k (c.in-Err.ensures ∙ own s f F there) (above_zero c.in-Err.refusal)
+    let e = c.in-Err.ensures ∙ own s f F there in
+    record {
+      mapped = there;
+      fault = e;
+      byte = F.byte;
+      read = ap (refused_at k) F.byte
+          ∙ file-mapped-refused s F.fair.setup (setup_at s) refl F.fair.dealing refl refl refl refl k e (above_zero c.in-Err.refusal);
+    }
 
 pub returns : goal.returns
 returns c =

@@ -1,27 +1,25 @@
--- The record reached decides, and what was sent stands at the places of the records.
-use mathlib.Core.Path.{◌≡◌, sym, ap, ◌∙◌}
+-- The record reached decides, and what was sent stands at the places of the records, whether that record is refused or not.
+use mathlib.Core.Path.{ap, ◌∙◌}
 use native.Mathlib.Omega.{arith}
-use borrow.Author.Rules.{rules}
-use Rattle.base.specs.Refusals.{refused_by}
-use Rattle.file_records.specs.Received.{fault_at}
+use Rattle.file_records.specs.Received.{place, fault_at}
 use Rattle.file_records.proofs.Reading.{pairs-mapped, pairs-some, reached-le, sent-are, verdicts-are}
 use Rattle.file_records.proofs.read_received.Goals as goal
+
+pub check_at-refused-requires : goal.check_at-refused-requires
+check_at-refused-requires c =
+    (c.requires, omega (arith, c.requires, c.reached-k.ensures, reached-le c.args.h c.args.t.now, (pairs-some c.args.h).1))
 
 pub place-byte-requires : goal.place-byte-requires
 place-byte-requires c =
     (c.requires, omega (arith, c.requires, c.reached-k.ensures, reached-le c.args.h c.args.t.now, (pairs-some c.args.h).1))
 
-pub check_at-requires : goal.check_at-requires
-check_at-requires c =
-    (c.requires, omega (arith, c.requires, c.reached-k.ensures, reached-le c.args.h c.args.t.now, (pairs-some c.args.h).1))
-
 pub returns : goal.returns
 returns c =
     let x = c.args in
-    let passes : refused_by c.check_at.result ≡ 0 = search rules in
     let m = c.from-pairs.ensures ∙ c.pair_records.ensures.0 in
     record {
-      faultless = ap (fault_at x.h x.t.now) (sym c.reached-k.ensures) ∙ sym c.check_at.ensures ∙ passes;
+      number = c.check_at-refused.ensures ∙ ap (fault_at x.h x.t.now) c.reached-k.ensures;
+      byte = c.place-byte.ensures ∙ ap (place x.h) c.reached-k.ensures;
       values-size = c.words_apart-values.ensures.0;
       values2-size = c.words_apart-values2.ensures.0;
       verdicts-size = c.words_apart-verdicts.ensures.0;

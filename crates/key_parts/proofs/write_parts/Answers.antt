@@ -2,7 +2,7 @@
 use mathlib.Core.Path.{refl, ◌∙◌}
 use Rattle.base.specs.Fill.{tab, tab_from}
 use Rattle.key_parts.proofs.Columns.{half, columns_of}
-use Rattle.key_parts.proofs.Parts.{products-g, products-h, rows-below, columns-below}
+use Rattle.key_parts.proofs.Parts.{all_products-g, all_products-h, rows-below, columns-below}
 use Rattle.key_parts.proofs.Table.{key-halves, key-parts-g, key-parts-h}
 use Rattle.key_parts.proofs.write_parts.Goals as goal
 
@@ -18,6 +18,6 @@ pub returns : goal.returns
 unfolding columns_of half tab tab_from
 returns c =
     record {
-      gs_after = c.write_products-2.ensures ∙ products-g _ _ _ _ c.all_columns.ensures ∙ key-parts-g _ refl _ _;
-      hs_after = c.write_products.ensures ∙ products-h _ _ _ _ c.all_rows.ensures ∙ key-parts-h _ refl _ _;
+      gs_after = c.write_products-2.ensures ∙ all_products-g _ _ _ _ c.all_columns.ensures ∙ key-parts-g _ refl _ _;
+      hs_after = c.write_products.ensures ∙ all_products-h _ _ _ _ c.all_rows.ensures ∙ key-parts-h _ refl _ _;
     }

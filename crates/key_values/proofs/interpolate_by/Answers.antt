@@ -29,4 +29,4 @@ pub returns-else-all_agree : goal.returns-else-all_agree
 returns-else-all_agree c =
     let p = c.requires in
     let found = interpolates p.tables p.ready c.weigh-w.ensures.inverses_value c.weigh-w.ensures.products_value c.scale-scaled.ensures c.read-values.ensures c.all_agree.ensures in
-    rw c.if-all_agree.false at found.further
+    rw c.if-all_agree.false at found
