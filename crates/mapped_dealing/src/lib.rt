@@ -85,7 +85,9 @@ fn check_elements(
     base::refuse_if(u32::from(p) < bound, Refusal::Element)
 }
 
-// Refusals 1 to 4 of the calls that deal with a map, with the lengths of the four buffers: the calls differ in the length needed.
+// Refusals 1 to 4 of the calls that deal with a map, with the lengths of the four buffers: the calls differ in the length needed. It is inlined, since a call's
+// answer is asked again behind the work, by one more branch that depends on the secret lists.
+#[inline(always)]
 fn check_mapped(
     s: Params,
     matrix: &[u16],
